@@ -1,0 +1,72 @@
+-- The rules of steps 1 and 2 over the whole tables: each test is computed once over all entries and carried to each place.
+-- Assumes nothing.
+use mathlib.Core.Path.{_≡_, refl}
+use mathlib.Core.Bool.{Bool}
+use Prim.Native.Nat.{ℕ, _+_, _*_, _≤_, _<_}
+use native.Mathlib.Omega.{arith}
+use lib.Dec.{T, leb, leb→le, lit<}
+use lib.ListN.{length, getD}
+use Rattle.exact.specs.Exponential.{agreeing, opposing, denominator, Nearest}
+use Rattle.exact.proofs.Tests.{allPass, entry}
+use Rattle.exact.proofs.Nearest.{nearestTest, halfTest, minusSum, plusSum, nearest-by-test}
+use Rattle.factors.specs.TemperatureTable.{temperatureTable}
+use Rattle.factors.specs.ClayTable.{clayTable}
+use Rattle.factors.specs.Factors.{temperatureNum, temperatureDen, clayNum, clayDen}
+
+-- sums of 34 and 35 terms
+temperatureTest : ℕ → ℕ → Bool
+temperatureTest i a = nearestTest a temperatureNum temperatureDen 10606 (10 * i + 1327) 33 34
+
+temperature-tested : T (allPass temperatureTest 0 temperatureTable)
+unfolding temperatureTest temperatureTable nearestTest halfTest minusSum plusSum temperatureNum temperatureDen agreeing opposing denominator
+temperature-tested = tt
+
+clayTest : ℕ → ℕ → Bool
+clayTest c r = nearestTest r clayNum clayDen (393 * c) 50000 33 34
+
+clay-tested : T (allPass clayTest 0 clayTable)
+unfolding clayTest clayTable nearestTest halfTest minusSum plusSum clayNum clayDen agreeing opposing denominator
+clay-tested = tt
+
+temperature-length : length temperatureTable ≡ 551
+unfolding temperatureTable
+temperature-length = refl
+
+clay-length : length clayTable ≡ 1001
+unfolding clayTable
+clay-length = refl
+
+-- place i of the table of step 1 has the nearest number
+pub temperature-nearest : (i : ℕ) → i < 551 → Nearest (getD temperatureTable i 0) temperatureNum temperatureDen 10606 (10 * i + 1327)
+unfolding temperatureTest
+temperature-nearest i h =
+    nearest-by-test (getD temperatureTable i 0) temperatureNum temperatureDen 10606 (10 * i + 1327) 33 34 (omega arith) refl refl
+    (entry temperatureTest temperatureTable temperature-tested i (omega (arith, temperature-length)))
+
+-- place c of the table of step 2 has the nearest number
+pub clay-nearest : (c : ℕ) → c ≤ 1000 → Nearest (getD clayTable c 0) clayNum clayDen (393 * c) 50000
+unfolding clayTest
+clay-nearest c h =
+    nearest-by-test (getD clayTable c 0) clayNum clayDen (393 * c) 50000 33 34 (lit< tt) refl refl
+    (entry clayTest clayTable clay-tested c (omega (arith, clay-length)))
+
+-- the largest entries
+most : ℕ → ℕ → ℕ → Bool
+most top i x = leb x top
+
+temperature-all-most : T (allPass (most 83639) 0 temperatureTable)
+unfolding temperatureTable most
+temperature-all-most = tt
+
+clay-all-most : T (allPass (most 244467) 0 clayTable)
+unfolding clayTable most
+clay-all-most = tt
+
+pub temperature-most : (i : ℕ) → i < 551 → getD temperatureTable i 0 ≤ 83639
+unfolding most
+temperature-most i h =
+    leb→le (getD temperatureTable i 0) 83639 (entry (most 83639) temperatureTable temperature-all-most i (omega (arith, temperature-length)))
+
+pub clay-most : (c : ℕ) → c ≤ 1000 → getD clayTable c 0 ≤ 244467
+unfolding most
+clay-most c h = leb→le (getD clayTable c 0) 244467 (entry (most 244467) clayTable clay-all-most c (omega (arith, clay-length)))

@@ -1,0 +1,22 @@
+-- `factors::clay_number` meets its contract: the code's table is that of the definition, whose rule holds at every place.
+-- Assumes nothing.
+use mathlib.Core.Path.{refl}
+use borrow.Author.Needs.{needs}
+use Rattle.factors.specs.ClayTable.{clayTable}
+use Rattle.factors.specs.Factors.{clayNumber, IsClayNumber}
+use Rattle.factors.proofs.Laws.{clay-nearest, clay-most}
+use Rattle.factors.proofs.clay_number.Statement.{statement}
+use Rattle.factors.proofs.clay_number.Tie as tie
+
+mul-result : tie.Need-mul-result
+mul-result c = search needs
+
+array-read-result : tie.Need-array-read-result
+array-read-result c = search needs
+
+returns : tie.Need-returns
+unfolding clayNumber IsClayNumber clayTable
+returns c = (refl, clay-nearest (c .args .clay) (c .pre), clay-most (c .args .clay) (c .pre))
+
+pub clay-number-spec : {M : Type 1} → statement M
+clay-number-spec = tie.close (tie.spec mul-result array-read-result returns)

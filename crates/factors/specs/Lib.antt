@@ -1,0 +1,3 @@
+pub mod TemperatureTable
+pub mod ClayTable
+pub mod Factors

@@ -1,0 +1,4 @@
+pub mod Table
+pub mod Series
+pub mod Steps
+pub mod Laws
