@@ -3,8 +3,9 @@
 use mathlib.Core.Path.{_≡_, refl, sym, _∙_, subst}
 use mathlib.Core.Bool.{Bool, true, false, _&&_}
 use mathlib.Core.List.{List, [], _∷_}
+use mathlib.Core.Logic.{⊎-elim}
 use Prim.Native.Nat.{ℕ, zero, suc, _+_, _-_, _*_, _≤_, _<_}
-use native.Mathlib.Nat.{add-zero, zero-add, add-suc, suc-add, le-of-suc-le-suc, not-suc-le-zero}
+use native.Mathlib.Nat.{add-zero, zero-add, add-suc, suc-add, le-of-suc-le-suc, not-suc-le-zero, eq-or-lt-of-le}
 use lib.Dec.{T, leb, leb→le}
 use lib.ListN.{length, getD}
 use Rattle.exact.specs.Exponential.{agreeing, opposing, denominator, endsOnPlus, AtOrBelow, AtOrAbove, AtMostFrom}
@@ -52,3 +53,15 @@ entry-from test (x ∷ xs) i t (suc k) h =
 -- a test that the whole table passes, at one entry
 pub entry : (test : ℕ → ℕ → Bool) (xs : List ℕ) → T (allPass test 0 xs) → (k : ℕ) → k < length xs → T (test k (getD xs k 0))
 entry test xs t k h = subst (λ n. T (test n (getD xs k 0))) (zero-add k) (entry-from test xs 0 t k h)
+
+-- each number below n passes a test
+abbrev pub allBelow : (ℕ → Bool) → ℕ → Bool
+allBelow test zero = true
+allBelow test (suc n) = test n && allBelow test n
+
+-- a test that all numbers below n pass, at one of them
+pub below : (test : ℕ → Bool) (n : ℕ) → T (allBelow test n) → (k : ℕ) → k < n → T (test k)
+below test zero t k h = absurd (not-suc-le-zero h)
+below test (suc n) t k h =
+    ⊎-elim (λ e. subst (λ m. T (test m)) (sym e) (and-left (test n) (allBelow test n) t))
+    (λ lt. below test n (and-right (test n) (allBelow test n) t) k lt) (eq-or-lt-of-le (le-of-suc-le-suc h))

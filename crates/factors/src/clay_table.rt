@@ -1,5 +1,5 @@
 // R for C = 0 to 1000.
-pub const CLAY_TABLE: [u64; 1001] = [
+pub const CLAY_TABLE: [u32; 1001] = [
     147896,
     148355,
     148813,

@@ -20,7 +20,7 @@ pub fn temperature_factor(t: i64) -> TenThousandths
         return TenThousandths(0);
     }
     let place = (t + 50) as usize;
-    TenThousandths(TEMPERATURE_TABLE[place])
+    TenThousandths(TEMPERATURE_TABLE[place] as u64)
 }
 
 // R, for a clay content in tenths of a percent, up to 1000.
@@ -28,5 +28,5 @@ pub fn clay_number(clay: u64) -> u64
     requires { ⌜ clay ≤ 1000 ⌝ }
     ensures { λ r. ⌜ (r ≡ clayNumber clay) × IsClayNumber clay r × (r ≤ 244467) ⌝ }
 {
-    CLAY_TABLE[clay as usize]
+    CLAY_TABLE[clay as usize] as u64
 }

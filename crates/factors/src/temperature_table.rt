@@ -1,5 +1,5 @@
 // A for T = -50 at place 0, up to T = 500 at place 550.
-pub const TEMPERATURE_TABLE: [u64; 551] = [
+pub const TEMPERATURE_TABLE: [u32; 551] = [
     162,
     172,
     182,

@@ -3,16 +3,14 @@
 use mathlib.Core.Path.{_≡_, refl, sym, _∙_, ap, ap₂}
 use Prim.Native.Nat.{ℕ, zero, suc, _+_, _-_, _*_, _/_, _%_, _^_, _≤_, _<_}
 use native.Mathlib.Nat.{mul-pos, mul-comm, mul-le-mul-left, mul-le-mul-right, mul-le-mul, div-mul-le-self, lt-div-mul-add, mod-lt, div-lt-iff-lt-mul, div-add-mod', zero-mod, zero-div}
-use native.Mathlib.Numerals.{add-one}
 use native.Mathlib.Omega.{arith}
 use lib.Dec.{lit<, lit≤}
-use lib.ListN.{getD}
 use Rattle.exact.specs.Exponential.{AtOrBelow, AtOrAbove, AtMostFrom}
 use Rattle.exact.proofs.Laws.{below-weaker, above-weaker, below-product, above-product, further}
 use Rattle.exact.proofs.Scaling.{below-scaled, above-scaled, below-unscaled, above-unscaled}
-use Rattle.survival.specs.Powers.{powers}
+use Rattle.survival.specs.Powers.{halfPowers, finePowers, powerAt}
 use Rattle.survival.specs.Survival.{sixtyFourths, remainder, term, series, survivalOf, survivalNumber, IsSurvival}
-use Rattle.survival.proofs.Table.{powers-near, powers-most}
+use Rattle.survival.proofs.Table.{powers-near, powers-most, powers-least}
 use Rattle.survival.proofs.Series.{IsPart, series-most, series-least, series-below, series-above}
 
 -- The remainder is what its name says.
@@ -27,29 +25,21 @@ remainder-is a b pos =
       small = div-lt-iff-lt-mul pos .1 (omega (arith, mul-le-mul-right (2 ^ 32) (mod-lt (64 * a) pos)));
     }
 
-suc-sub-one : (n : ℕ) → suc n - 1 ≡ n
-suc-sub-one n = omega arith
-
 -- p is the table's entry, y the series, q their product in 1024ths and s that rounded.
 module _ (p y q s : ℕ) (lowQ : q * 2 ^ 38 ≤ p * y) (highQ : p * y < q * 2 ^ 38 + 2 ^ 38) (lowS : s * 1024 ≤ q + 512) (highS : q + 512 < s * 1024 + 1024)
-    (most : p ≤ 1024000000001) (mostY : y ≤ 2 ^ 38) (leastY : 2 ^ 37 ≤ y) where
-  product-low : (p' y' : ℕ) → p ≡ p' + 1 → y ≡ y' + 12 → (s - 1) * (1024 * 2 ^ 38) ≤ p' * y'
+    (most : p ≤ 1024000000004) (mostY : y ≤ 2 ^ 38) (leastY : 2 ^ 37 ≤ y) where
+  product-low : (p' y' : ℕ) → p ≡ p' + 4 → y ≡ y' + 12 → (s - 1) * (1024 * 2 ^ 38) ≤ p' * y'
   product-low p' y' e e' = omega (arith, lowQ, lowS, most, mostY, ap₂ _*_ e e')
 
-  product-high : (p + 1) * (y + 12) ≤ (s + 1) * (1024 * 2 ^ 38)
+  product-high : (p + 4) * (y + 12) ≤ (s + 1) * (1024 * 2 ^ 38)
   product-high = omega (arith, highQ, highS, most, mostY)
-
-  product-low' : (p' : ℕ) → p ≡ p' → (s - 1) * (1024 * 2 ^ 38) ≤ (p' - 1) * (y - 12)
-  product-low' zero e = omega (arith, lowQ, lowS, ap (λ t. t * y) e)
-  product-low' (suc p') e =
-      rw (suc-sub-one p') (product-low p' (y - 12) (e ∙ sym (add-one p')) (omega (arith, leastY)))
 
 module _ (a b : ℕ) (pos : 0 < b) (fits : 64 * a < 480 * b) where
   rest : ℕ
   rest = 64 * a % b
 
   entry : ℕ
-  entry = getD powers (sixtyFourths a b) 0
+  entry = powerAt (sixtyFourths a b)
 
   tail : ℕ
   tail = series (remainder a b)
@@ -63,13 +53,17 @@ module _ (a b : ℕ) (pos : 0 < b) (fits : 64 * a < 480 * b) where
   unfolding sixtyFourths rest
   whole = div-add-mod' (64 * a) b ∙ mul-comm 64 a
 
-  near : AtMostFrom 1 entry 1024000000000 (sixtyFourths a b) 64
+  near : AtMostFrom 4 entry 1024000000000 (sixtyFourths a b) 64
   unfolding entry
   near = powers-near (sixtyFourths a b) in-table
 
-  entry-most : entry ≤ 1024000000001
+  entry-most : entry ≤ 1024000000004
   unfolding entry
   entry-most = powers-most (sixtyFourths a b) in-table
+
+  entry-least : 4 ≤ entry
+  unfolding entry
+  entry-least = powers-least (sixtyFourths a b) in-table
 
   tail-most : tail ≤ 2 ^ 38
   unfolding tail
@@ -82,14 +76,14 @@ module _ (a b : ℕ) (pos : 0 < b) (fits : 64 * a < 480 * b) where
   scaled : ℕ
   scaled = entry * tail / 2 ^ 38
 
-  below : AtOrBelow ((entry - 1) * (tail - 12)) (1024000000000 * 2 ^ 38) (a * 64) (b * 64)
+  below : AtOrBelow ((entry - 4) * (tail - 12)) (1024000000000 * 2 ^ 38) (a * 64) (b * 64)
   unfolding tail rest
   below =
       rw (whole, mul-comm 64 b) at
       (below-product (mul-pos (lit< tt) pos) (lit< tt) (lit< tt) (below-scaled (sixtyFourths a b) 64 b pos (near .below))
       (series-below (remainder-is a b pos)))
 
-  above : AtOrAbove ((entry + 1) * (tail + 12)) (1024000000000 * 2 ^ 38) (a * 64) (b * 64)
+  above : AtOrAbove ((entry + 4) * (tail + 12)) (1024000000000 * 2 ^ 38) (a * 64) (b * 64)
   unfolding tail rest
   above =
       rw (whole, mul-comm 64 b) at
@@ -111,8 +105,8 @@ module _ (a b : ℕ) (pos : 0 < b) (fits : 64 * a < 480 * b) where
   pub close-one : AtMostFrom 1 (survivalOf a b) 1000000000 a b
   close-one =
       let low =
-      product-low' entry tail scaled (survivalOf a b) (rounded .0) (rounded .1) (rounded .2) (rounded .3) entry-most tail-most
-      tail-least entry refl in
+      product-low entry tail scaled (survivalOf a b) (rounded .0) (rounded .1) (rounded .2) (rounded .3) entry-most tail-most
+      tail-least (entry - 4) (tail - 12) (omega (arith, entry-least)) (omega (arith, tail-least)) in
       let high =
       product-high entry tail scaled (survivalOf a b) (rounded .0) (rounded .1) (rounded .2) (rounded .3) entry-most tail-most
       tail-least in
@@ -128,7 +122,7 @@ module _ (a b : ℕ) (pos : 0 < b) (fits : 64 * a < 480 * b) where
 
 -- no loss where w is 0
 pub at-zero : (b : ℕ) → 0 < b → survivalOf 0 b ≡ 1000000000
-unfolding survivalOf sixtyFourths remainder series term powers
+unfolding survivalOf sixtyFourths remainder series term powerAt halfPowers finePowers
 at-zero b pos = rw (zero-div, zero-mod, zero-div)
 
 -- every w of a month: N is at most 83,639 × 10,000 × 10 and a rate at most 1000

@@ -2,9 +2,8 @@
 use mathlib.Core.Bool.{Bool, true, false}
 use mathlib.Core.Path.{_≡_}
 use Prim.Native.Nat.{ℕ, zero, suc, _+_, _-_, _*_, _/_, _%_, _^_, _≤_}
-use lib.ListN.{getD}
 use Rattle.exact.specs.Exponential.{AtMostFrom}
-use Rattle.survival.specs.Powers.{powers}
+use Rattle.survival.specs.Powers.{powerAt}
 
 -- 6 under a crop, 10 on bare soil.
 abbrev pub coverFactor : Bool → ℕ
@@ -32,9 +31,9 @@ unfoldable pub series : ℕ → ℕ
 series r = term r 0 + term r 2 + term r 4 - (term r 1 + term r 3 + term r 5)
 
 -- The survival number of w = a / b: e^(-i/64) × e^(-r) in billionths, rounded to the nearest, halves up.
--- The table has e^(-i/64) in 1024ths of a billionth.
+-- `powerAt` has e^(-i/64) in 1024ths of a billionth.
 unfoldable pub survivalOf : ℕ → ℕ → ℕ
-survivalOf a b = (getD powers (sixtyFourths a b) 0 * series (remainder a b) / 2 ^ 38 + 512) / 1024
+survivalOf a b = (powerAt (sixtyFourths a b) * series (remainder a b) / 2 ^ 38 + 512) / 1024
 
 -- S for the rate number N and a rate K in hundredths a year: w = N × K / 1,200,000,000,000.
 unfoldable pub survivalNumber : ℕ → ℕ → ℕ

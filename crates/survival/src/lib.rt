@@ -3,10 +3,10 @@ mod powers;
 
 ghost use mathlib.Core.Path.{_≡_};
 ghost use Prim.Native.Nat.{_+_, _*_, _/_, _^_, _≤_, _<_};
-ghost use lib.ListN.{getD};
-ghost use Rattle.survival.specs.Powers.{powers};
+ghost use Rattle.survival.specs.Powers.{powerAt};
 ghost use Rattle.survival.specs.Survival.{rateNumber, series, survivalNumber, IsSurvival};
-use powers::POWERS;
+use powers::FINE_POWERS;
+use powers::HALF_POWERS;
 use units::TenThousandths;
 
 // N, from A, B and whether a crop covers the soil.
@@ -39,6 +39,19 @@ fn scaled(power: u64, y: u64) -> u64
     (power * high + power * low / 524_288) / 524_288
 }
 
+// e^(-i/64) in 1024ths of a billionth. At 0, where the slow pools mostly are, the tables are not needed.
+fn power(i: usize) -> u64
+    requires { ⌜ i < 480 ⌝ }
+    ensures { λ p. ⌜ p ≡ powerAt i ⌝ }
+{
+    if i == 0 {
+        return 1_024_000_000_000;
+    }
+    let half = HALF_POWERS[i / 32];
+    let fine = FINE_POWERS[i % 32];
+    scaled(half, fine)
+}
+
 // The survival number S, for every N that steps 1 to 3 give and every rate K up to 1000 hundredths a year.
 pub fn survival(n: u64, k: u64) -> u64
     requires { ⌜ (n ≤ 8363900000) × (k ≤ 1000) ⌝ }
@@ -47,5 +60,7 @@ pub fn survival(n: u64, k: u64) -> u64
     let a = 64 * (n * k);
     let i = a / 1_200_000_000_000;
     let r = a % 1_200_000_000_000 * 524_288 / 146_484_375;
-    (scaled(POWERS[i as usize], small_power(r)) + 512) / 1024
+    let whole = power(i as usize);
+    let part = small_power(r);
+    (scaled(whole, part) + 512) / 1024
 }

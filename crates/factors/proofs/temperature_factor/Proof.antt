@@ -11,6 +11,7 @@ use mir.Syntax.{w64}
 use mir.Val.{SFits, toZ, ofZ}
 use mir.Facts.{toZ-ofZ}
 use Rattle.factors.specs.TemperatureTable.{temperatureTable}
+use Rattle.factors.proofs.Laws.{temperature-most}
 use Rattle.factors.proofs.Places.{place, below-table, in-table}
 use Rattle.factors.proofs.temperature_factor.Statement.{statement}
 use Rattle.factors.proofs.temperature_factor.Tie as tie
@@ -46,10 +47,14 @@ mul-t6 c = rw (read-place c) (omega (arith, summed c .1))
 array-read-t9 : tie.Need-array-read-t9
 array-read-t9 c = rw (read-place c) (summed c .1)
 
+cast-t10 : tie.Need-cast-t10
+unfolding temperatureTable
+cast-t10 c = rw (read-place c) (omega (arith, temperature-most (summed c .0) (summed c .1)))
+
 returns-2 : tie.Need-returns-2
 unfolding temperatureTable
 returns-2 c = rw (read-place c) (in-table (c .before .args .t) (summed c .0) (summed c .1) (summed c .2))
 
 pub temperature-factor-spec : {M : Type 1} → statement M
 temperature-factor-spec =
-    tie.close (tie.spec returns add-place cast-place mul-t6 array-read-t9 returns-2)
+    tie.close (tie.spec returns add-place cast-place mul-t6 array-read-t9 cast-t10 returns-2)

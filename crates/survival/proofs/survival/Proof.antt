@@ -1,13 +1,12 @@
 -- `survival::survival` meets its contract: its table entry, remainder and product are those of the definition, whose laws are
 -- the promises of step 4. Assumes nothing.
-use mathlib.Core.Path.{_≡_, sym, _∙_, ap, ap₂, subst}
+use mathlib.Core.Path.{_≡_, _∙_, ap, ap₂}
 use Prim.Native.Nat.{ℕ, _+_, _*_, _/_, _%_, _^_, _≤_, _<_}
 use native.Mathlib.Nat.{mul-le-mul}
 use native.Mathlib.Omega.{arith}
 use borrow.Author.Needs.{needs}
-use lib.ListN.{getD}
-use Rattle.survival.specs.Powers.{powers}
-use Rattle.survival.specs.Survival.{sixtyFourths, remainder, series, survivalOf, survivalNumber, IsSurvival}
+use Rattle.survival.specs.Powers.{powerAt}
+use Rattle.survival.specs.Survival.{sixtyFourths, remainder, series, survivalOf, survivalNumber}
 use Rattle.survival.proofs.Table.{powers-most}
 use Rattle.survival.proofs.Series.{series-most}
 use Rattle.survival.proofs.Steps.{remainder-by}
@@ -30,49 +29,45 @@ mul-a-2 c = omega (arith, product (c .args .n) (c .args .k) (c .pre .0) (c .pre 
 mul-r : tie.Need-mul-r
 mul-r c = search needs
 
-mul-scaled : tie.Need-mul-scaled
-mul-scaled c = omega (arith, in-table (c .args .n) (c .args .k) (c .pre .0) (c .pre .1))
-
-array-read-scaled : tie.Need-array-read-scaled
-array-read-scaled c = in-table (c .args .n) (c .args .k) (c .pre .0) (c .pre .1)
+power-requires : tie.Need-power-requires
+power-requires c κs = in-table (c .args .n) (c .args .k) (c .pre .0) (c .pre .1)
 
 small-power-requires : tie.Need-small-power-requires
 small-power-requires c κs = search needs
 
 -- the two factors, within the bounds of `scaled`
-factors :
-    (c : tie.After-small-power)
-    → (getD powers (64 * (c .before .args .n * c .before .args .k) / 1200000000000) 0 ≤ 1024000000001) × (c .small-power .result ≤ 2 ^ 38)
+factors : (c : tie.After-small-power) → (c .before .power .result ≤ 1024000000004) × (c .small-power .result ≤ 2 ^ 38)
 factors c =
-    let s = c .before in
-    let rest : ℕ = 64 * (s .args .n * s .args .k) % 1200000000000 * 524288 / 146484375 in
-    let small : rest < 2 ^ 32 = omega arith in (
-      powers-most (64 * (s .args .n * s .args .k) / 1200000000000) (in-table (s .args .n) (s .args .k) (s .pre .0) (s .pre .1)),
-      omega (arith, c .small-power .ensures, series-most rest small),
-    )
+    let s = c .before .before in
+    let a : ℕ = 64 * (s .args .n * s .args .k) in
+    let rest : ℕ = a % 1200000000000 * 524288 / 146484375 in
+    let small : rest < 2 ^ 32 = omega arith in
+    let most = powers-most (a / 1200000000000) (in-table (s .args .n) (s .args .k) (s .pre .0) (s .pre .1)) in
+    (omega (arith, c .before .power .ensures, most), omega (arith, c .small-power .ensures, series-most rest small))
 
 scaled-requires : tie.Need-scaled-requires
-unfolding powers
 scaled-requires c κs = omega (arith, factors c)
 
 add-result : tie.Need-add-result
-unfolding powers
 add-result c =
     let f = factors (c .before) in
     omega (arith, c .scaled .ensures, mul-le-mul (f .0) (f .1))
 
-value-is : (c : tie.After-scaled) → (c .scaled .result + 512) / 1024 ≡ survivalNumber (c .before .before .args .n) (c .before .before .args .k)
-unfolding powers sixtyFourths survivalOf survivalNumber
+value-is :
+    (c : tie.After-scaled)
+    → (c .scaled .result + 512) / 1024 ≡ survivalNumber (c .before .before .before .args .n) (c .before .before .before .args .k)
+unfolding sixtyFourths survivalOf survivalNumber
 value-is c =
-    let a : ℕ = c .before .before .args .n * c .before .before .args .k in
+    let s = c .before .before .before in
+    let a : ℕ = s .args .n * s .args .k in
     let y : c .before .small-power .result ≡ series (remainder a 1200000000000) =
     c .before .small-power .ensures ∙ ap series (remainder-by a) in
     ap (λ q. (q + 512) / 1024)
-    (c .scaled .ensures ∙ ap (λ t. getD powers (64 * a / 1200000000000) 0 * t / 2 ^ 38) y)
+    (c .scaled .ensures ∙ ap₂ (λ p t. p * t / 2 ^ 38) (c .before .before .power .ensures) y)
 
 returns : tie.Need-returns
 returns c =
-    let s = c .before .before in
+    let s = c .before .before .before in
     (value-is c, rw (value-is c) (is-survival (s .args .n) (s .args .k) (s .pre .0) (s .pre .1)))
 
 pub survival-spec : {M : Type 1} → statement M
@@ -82,8 +77,7 @@ survival-spec =
     mul-a
     mul-a-2
     mul-r
-    mul-scaled
-    array-read-scaled
+    power-requires
     small-power-requires
     scaled-requires
     add-result

@@ -1,0 +1,3 @@
+-- What steps 5 and 6 of document 01 give.
+pub mod Rates
+pub mod Decay

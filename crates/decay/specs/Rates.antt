@@ -1,0 +1,12 @@
+-- Step 4 of document 01 for the four pools: their rates, and their survival numbers at a rate number.
+use mathlib.Core.List.{List, [], _∷_}
+use Prim.Native.Nat.{ℕ}
+use Rattle.survival.specs.Survival.{survivalNumber}
+
+-- K of DPM, RPM, BIO and HUM, in hundredths a year.
+abbrev pub rates : List ℕ
+rates = 1000 ∷ 30 ∷ 66 ∷ 2 ∷ []
+
+-- S of the four pools at the rate number n.
+unfoldable pub survivals : ℕ → List ℕ
+survivals n = survivalNumber n 1000 ∷ survivalNumber n 30 ∷ survivalNumber n 66 ∷ survivalNumber n 2 ∷ []

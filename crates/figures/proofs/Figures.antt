@@ -1,0 +1,29 @@
+-- Document 01's known figures marked (P) hold of the definitions: each is computed. Assumes nothing.
+use mathlib.Core.Path.{refl}
+use Rattle.factors.specs.TemperatureTable.{temperatureTable}
+use Rattle.factors.specs.ClayTable.{clayTable}
+use Rattle.factors.specs.Factors.{temperatureFactor, factorAt, clayNumber}
+use Rattle.water.specs.Water.{maxDeficit, moistureFactor, halvesUp}
+use Rattle.decay.specs.Decay.{share, plantToDpm}
+use Rattle.figures.specs.Figures.{KnownFigures}
+
+pub known-figures : KnownFigures
+unfolding temperatureFactor factorAt temperatureTable clayNumber clayTable maxDeficit moistureFactor halvesUp share plantToDpm
+known-figures =
+    record {
+      coldest = refl;
+      lowest = refl;
+      january = refl;
+      mean = refl;
+      hottest = refl;
+      noClay = refl;
+      rothamsted = refl;
+      allClay = refl;
+      drying = refl;
+      driest = refl;
+      plantDpm = refl;
+      plantRpm = refl;
+      manureDpm = refl;
+      manureRpm = refl;
+      manureHum = refl;
+    }
