@@ -6,3 +6,5 @@ pub mod Scaling
 pub mod Order
 pub mod Tests
 pub mod Nearest
+pub mod Fraction
+pub mod Close

@@ -1,0 +1,46 @@
+-- Step 6's parts beside the recurrence's: each rounding is at most a gram from the exact part. Over 50,935 = 61 × 167 × 5
+-- for the plant carbon of any kind, over 100 for the manure. Assumes nothing.
+use mathlib.Core.Bool.{Bool, true, false, cond}
+use Prim.Native.Nat.{ℕ, _+_, _*_, _<_}
+use lib.Dec.{lit<, eqb}
+use lib.IntN.{natAbs}
+use Rattle.exact.specs.Fraction.{ratio, whole, _⊟_, _⊠_}
+use Rattle.exact.proofs.Close.{Close, close-whole, close-times, close-difference, close-share}
+use Rattle.decay.specs.Decay.{share, pick, plantToDpm, plantToRpm, manureToDpm, manureToHum, manureToRpm}
+use Rattle.month.specs.declared.Soil.{Soil}
+use Rattle.month.specs.declared.Entries.{Entries}
+use Rattle.recurrence.specs.Recurrence.{plantPart, manurePart}
+use Rattle.recurrence.proofs.Part.{share-near}
+
+-- A share of n whole grams.
+close-part : (n c w : ℕ) (pos : 0 < w) → Close (1 * w) (share n c w) (whole n ⊠ ratio c w pos) (0 * c + 1 * w)
+close-part n c w pos = close-share (share n c w) c w pos (close-whole 1 n) (share-near n c w pos)
+
+close-kinds :
+    (n : ℕ) (one two : Bool)
+    → Close 50935 (pick one (share n 36 61) (pick two (share n 67 167) (share n 1 5)))
+    (whole n ⊠ cond one (ratio 36 61 (lit< tt)) (cond two (ratio 67 167 (lit< tt)) (ratio 1 5 (lit< tt)))) 50935
+close-kinds n true two = close-times 835 (close-part n 36 61 (lit< tt))
+close-kinds n false true = close-times 305 (close-part n 67 167 (lit< tt))
+close-kinds n false false = close-times 10187 (close-part n 1 5 (lit< tt))
+
+module _ (s : Soil) (e : Entries) where
+  pub close-plant : Close 50935 (plantToDpm (s .kind) (natAbs (e .plant))) (plantPart s e) 50935
+  unfolding plantToDpm
+  close-plant = close-kinds (natAbs (e .plant)) (eqb (s .kind) 1) (eqb (s .kind) 2)
+
+  pub close-plant-rest :
+      Close 50935 (plantToRpm (s .kind) (natAbs (e .plant))) (whole (natAbs (e .plant)) ⊟ plantPart s e) 50935
+  close-plant-rest = close-difference (close-whole 50935 (natAbs (e .plant))) close-plant
+
+module _ (e : Entries) where
+  pub close-manure-dpm : Close 100 (manureToDpm (natAbs (e .manure))) (manurePart e 49) 100
+  close-manure-dpm = close-part (natAbs (e .manure)) 49 100 (lit< tt)
+
+  pub close-manure-hum : Close 100 (manureToHum (natAbs (e .manure))) (manurePart e 2) 100
+  close-manure-hum = close-part (natAbs (e .manure)) 2 100 (lit< tt)
+
+  pub close-manure-rest :
+      Close 100 (manureToRpm (natAbs (e .manure))) (whole (natAbs (e .manure)) ⊟ manurePart e 49 ⊟ manurePart e 2) 200
+  close-manure-rest =
+      close-difference (close-difference (close-whole 100 (natAbs (e .manure))) close-manure-dpm) close-manure-hum
