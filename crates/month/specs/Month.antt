@@ -10,19 +10,15 @@ use Rattle.water.specs.Water.{maxDeficit, newDeficit, moistureFactor}
 use Rattle.survival.specs.Survival.{rateNumber}
 use Rattle.decay.specs.Rates.{survivals}
 use Rattle.decay.specs.Decay.{grams, gramsAt, total, losses, carbonDioxide, decayed, added}
-use Rattle.month.specs.declared.Soil.{Soil}
-use Rattle.month.specs.declared.State.{State}
-use Rattle.month.specs.declared.Entries.{Entries}
-use Rattle.month.specs.declared.Check.{Check}
-use Rattle.month.specs.declared.Check.the-variants.{Pass, Refuse}
+use Rattle.state.specs.declared.Soil.{Soil}
+use Rattle.state.specs.declared.State.{State}
+use Rattle.state.specs.declared.Entries.{Entries}
+use Rattle.state.specs.declared.Check.{Check}
+use Rattle.state.specs.declared.Check.the-variants.{Pass, Refuse}
 use Rattle.month.specs.declared.Row.{Row}
 use Rattle.month.specs.declared.Answer.the-variants.{Done, Refused}
 use Rattle.month.specs.declared.Outcome.{Outcome}
-use Rattle.month.specs.Refusal.{monthCheck}
-
--- A new state has the soil, and 0 for the deficit, the months done and the CO2 to date.
-unfoldable pub newState : Soil → State
-newState s = record { soil = s; deficit = record { 0 = 0 }; months = 0; co2 = record { 0 = 0 } }
+use Rattle.state.specs.Refusal.{monthCheck}
 
 -- The entries of an accepted month are 0 or more, but for the temperature. Cover 1 is a crop.
 abbrev pub crop : Entries → Bool

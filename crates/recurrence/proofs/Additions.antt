@@ -7,8 +7,8 @@ use lib.IntN.{natAbs}
 use Rattle.exact.specs.Fraction.{ratio, whole, _⊟_, _⊠_}
 use Rattle.exact.proofs.Close.{Close, close-whole, close-times, close-difference, close-share}
 use Rattle.decay.specs.Decay.{share, pick, plantToDpm, plantToRpm, manureToDpm, manureToHum, manureToRpm}
-use Rattle.month.specs.declared.Soil.{Soil}
-use Rattle.month.specs.declared.Entries.{Entries}
+use Rattle.state.specs.declared.Soil.{Soil}
+use Rattle.state.specs.declared.Entries.{Entries}
 use Rattle.recurrence.specs.Recurrence.{plantPart, manurePart}
 use Rattle.recurrence.proofs.Part.{share-near}
 

@@ -1,24 +1,20 @@
 -- Demand 3 (a): along any list of calls the active pools and the CO2 to date grow by what the accepted calls add, to the gram.
--- By induction on the list; a month's balance is that of steps 5 and 6. Assumes nothing.
+-- By induction on the list; a month's balance is the month's law. Assumes nothing.
 use mathlib.Core.Path.{_≡_, refl}
 use mathlib.Core.Bool.{cond}
 use mathlib.Core.List.{List, [], _∷_}
 use Prim.Native.Nat.{ℕ, _+_}
 use native.Mathlib.Omega.{arith}
 use lib.IntN.{natAbs}
-use Rattle.factors.specs.Factors.{clayNumber}
-use Rattle.decay.specs.Rates.{survivals}
-use Rattle.decay.specs.Decay.{total, decayed}
-use Rattle.decay.proofs.Laws.{decay-balance, added-balance}
-use Rattle.month.specs.declared.State.{State}
-use Rattle.month.specs.declared.Entries.{Entries}
-use Rattle.month.specs.declared.Check.{Check}
-use Rattle.month.specs.declared.Check.the-variants.{Pass, Refuse}
-use Rattle.month.specs.Refusal.{monthCheck}
-use Rattle.month.specs.Month.{poolsAfter, gasOf, movedTo, stateDeficit, stateRate, outcomeOf, monthCall}
+use Rattle.decay.specs.Decay.{total}
+use Rattle.state.specs.declared.State.{State}
+use Rattle.state.specs.declared.Entries.{Entries}
+use Rattle.state.specs.declared.Check.{Check}
+use Rattle.state.specs.declared.Check.the-variants.{Pass, Refuse}
+use Rattle.state.specs.Refusal.{monthCheck}
+use Rattle.month.specs.Month.{outcomeOf, monthCall}
+use Rattle.month.proofs.Laws.{accepted, moved, next-is}
 use Rattle.recurrence.specs.Calls.{Call, stateAfter, isDone, runCalls, addedCarbon}
-use Rattle.recurrence.proofs.Bounds.{Bounds}
-use Rattle.recurrence.proofs.Accepted.{accepted-bounds}
 
 -- The active pools and the CO2 to date.
 abbrev pub carbonOf : State → ℕ
@@ -28,27 +24,15 @@ carbonOf t = total (t .soil .pools) + t .co2 .0
 abbrev pub addition : Entries → ℕ
 addition e = natAbs (e .plant) + natAbs (e .manure)
 
--- An accepted month.
-pub month-balance :
-    (t : State) (e : Entries) → Bounds t e
-    → carbonOf (movedTo t e (stateDeficit t e) (stateRate t e)) ≡ carbonOf t + addition e
-unfolding movedTo poolsAfter gasOf
-month-balance t e bounds =
-    omega (
-      arith,
-      decay-balance (t .soil .pools) (survivals (stateRate t e)) (clayNumber (t .soil .clay)) (bounds .survival)
-          (omega (arith, bounds .clay)),
-      added-balance (decayed (t .soil .pools) (survivals (stateRate t e)) (clayNumber (t .soil .clay))) (t .soil .kind)
-          (natAbs (e .plant)) (natAbs (e .manure)),
-    )
-
--- One call.
+-- One call: an accepted one by the month's law, a refused one since it returns the state that it was given.
 one-call :
-    (t : State) (e : Entries) (check : Check) → (check ≡ Pass → Bounds t e)
+    (t : State) (number : ℕ) (e : Entries) (check : Check) → monthCheck t number e ≡ check
     → carbonOf (outcomeOf check t e .state) ≡ carbonOf t + cond (isDone (outcomeOf check t e .answer)) (addition e) 0
 unfolding outcomeOf
-one-call t e Pass bounds = month-balance t e (bounds refl)
-one-call t e (Refuse refusal) bounds = omega arith
+one-call t number e Pass h =
+    let a = accepted t number e h in
+    omega (arith, rw (next-is t e) at (moved t e (a .sound) (a .entries) .balance))
+one-call t number e (Refuse refusal) h = omega arith
 
 -- A list of calls.
 pub calls-balance :
@@ -58,6 +42,6 @@ calls-balance [] t = omega arith
 calls-balance (c ∷ calls) t =
     omega (
       arith,
-      one-call t (c .entries) (monthCheck t (c .number) (c .entries)) (accepted-bounds t (c .number) (c .entries)),
+      one-call t (c .number) (c .entries) (monthCheck t (c .number) (c .entries)) refl,
       calls-balance calls (stateAfter t c),
     )

@@ -6,8 +6,8 @@ use native.Mathlib.Nat.{zero-add}
 use native.Mathlib.Omega.{arith}
 use Rattle.exact.specs.Fraction.{_≼_, whole}
 use Rattle.decay.specs.Decay.{total}
-use Rattle.month.specs.declared.Soil.{Soil}
-use Rattle.month.specs.Month.{newState}
+use Rattle.state.specs.declared.Soil.{Soil}
+use Rattle.state.specs.NewState.{newState}
 use Rattle.recurrence.specs.Calls.{Call, runCalls, acceptedCalls, addedCarbon}
 use Rattle.recurrence.specs.Recurrence.{Exact, Leads, exactStart, feed}
 use Rattle.recurrence.specs.Demand.{totalDistance, Demand3}

@@ -10,19 +10,19 @@ use lib.Dec.{lit<}
 use Rattle.exact.specs.Fraction.{_≼_, whole, distance}
 use Rattle.exact.proofs.Fraction.{At, at-whole, at-sum, at-distance, le-at, ≼-trans, sum-most}
 use Rattle.decay.specs.Decay.{gramsAt}
-use Rattle.month.specs.declared.Soil.{Soil}
-use Rattle.month.specs.declared.State.{State}
-use Rattle.month.specs.declared.Entries.{Entries}
-use Rattle.month.specs.declared.Check.{Check}
-use Rattle.month.specs.declared.Check.the-variants.{Pass, Refuse}
-use Rattle.month.specs.Refusal.{monthCheck}
-use Rattle.month.specs.Month.{newState, deficitAfter, rateAfter, poolsAfter, withPools, movedTo, stateDeficit, stateRate, outcomeOf, monthCall}
+use Rattle.state.specs.declared.Soil.{Soil}
+use Rattle.state.specs.declared.State.{State}
+use Rattle.state.specs.declared.Entries.{Entries}
+use Rattle.state.specs.declared.Check.{Check}
+use Rattle.state.specs.declared.Check.the-variants.{Pass, Refuse}
+use Rattle.state.specs.Refusal.{monthCheck}
+use Rattle.state.specs.NewState.{newState}
+use Rattle.month.specs.Month.{deficitAfter, rateAfter, poolsAfter, withPools, movedTo, stateDeficit, stateRate, outcomeOf, monthCall}
 use Rattle.recurrence.specs.Calls.{Call, stateAfter, isDone, accepts, runCalls, acceptedCalls}
 use Rattle.recurrence.specs.Recurrence.{Fed, feed, Exact, exactStart, Fractions, AllowedAt, exactFormed, exactMonth, exactRate, Leads, none, refused, month}
 use Rattle.recurrence.specs.Demand.{totalDistance}
 use Rattle.recurrence.proofs.Step.{month-distance}
-use Rattle.recurrence.proofs.Bounds.{Bounds}
-use Rattle.recurrence.proofs.Accepted.{accepted-bounds}
+use Rattle.recurrence.proofs.Bounds.{Bounds, accepted-bounds}
 
 -- A state follows the recurrence: its soil is the recurrence's but for the pools, its deficit is the recurrence's, and the
 -- distances of its pools add up to at most n grams.
@@ -67,7 +67,7 @@ module _ (s : Soil) (t : State) (x : Exact) (e : Entries) (soil : t .soil ≡ wi
   unfolding stateDeficit deficitAfter
   same-deficit d = ap₂ (λ (u : Soil) (m : ℕ). deficitAfter u m e) soil d
 
-  same-rate : t .deficit .0 ≡ x .deficit → stateRate t e ≡ exactRate s e x
+  pub same-rate : t .deficit .0 ≡ x .deficit → stateRate t e ≡ exactRate s e x
   unfolding stateRate stateDeficit deficitAfter rateAfter
   same-rate d = ap₂ (λ (u : Soil) (m : ℕ). rateAfter u (deficitAfter u m e) e) soil d
 

@@ -3,7 +3,7 @@ pub mod Part
 pub mod Additions
 pub mod Step
 pub mod Bounds
-pub mod Accepted
 pub mod Distance
 pub mod Balance
 pub mod Demand
+pub mod Exists

@@ -13,9 +13,9 @@ use Rattle.exact.proofs.Close.{Near, Close, close-self, close-times, times-clos
 use Rattle.factors.specs.Factors.{clayNumber}
 use Rattle.decay.specs.Rates.{survivals}
 use Rattle.decay.specs.Decay.{share, gramsAt, total, Survivals, losses, formed, toBio, toHum, decayed, added}
-use Rattle.month.specs.declared.Soil.{Soil}
-use Rattle.month.specs.declared.State.{State}
-use Rattle.month.specs.declared.Entries.{Entries}
+use Rattle.state.specs.declared.Soil.{Soil}
+use Rattle.state.specs.declared.State.{State}
+use Rattle.state.specs.declared.Entries.{Entries}
 use Rattle.month.specs.Month.{poolsAfter, movedTo}
 use Rattle.recurrence.specs.Recurrence.{Exact, Fractions, AllowedAt, exactLoss, exactFormed, exactMonth}
 use Rattle.recurrence.specs.Demand.{totalDistance}

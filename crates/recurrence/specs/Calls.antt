@@ -3,8 +3,8 @@ use mathlib.Core.Bool.{Bool, true, false, cond}
 use mathlib.Core.List.{List, [], _∷_}
 use Prim.Native.Nat.{ℕ, _+_}
 use lib.IntN.{natAbs}
-use Rattle.month.specs.declared.State.{State}
-use Rattle.month.specs.declared.Entries.{Entries}
+use Rattle.state.specs.declared.State.{State}
+use Rattle.state.specs.declared.Entries.{Entries}
 use Rattle.month.specs.declared.Answer.{Answer}
 use Rattle.month.specs.declared.Answer.the-variants.{Done, Refused}
 use Rattle.month.specs.Month.{monthCall}

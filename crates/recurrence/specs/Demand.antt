@@ -4,11 +4,11 @@ use mathlib.Core.List.{List}
 use Prim.Native.Nat.{ℕ, _+_, _*_}
 use Rattle.exact.specs.Fraction.{Fraction, _≼_, whole, _⊞_, distance}
 use Rattle.decay.specs.Decay.{gramsAt, total}
-use Rattle.month.specs.declared.Soil.{Soil}
-use Rattle.month.specs.declared.State.{State}
-use Rattle.month.specs.declared.Check.the-variants.{Pass}
-use Rattle.month.specs.Refusal.{soilCheck}
-use Rattle.month.specs.Month.{newState}
+use Rattle.state.specs.declared.Soil.{Soil}
+use Rattle.state.specs.declared.State.{State}
+use Rattle.state.specs.declared.Check.the-variants.{Pass}
+use Rattle.state.specs.Refusal.{soilCheck}
+use Rattle.state.specs.NewState.{newState}
 use Rattle.recurrence.specs.Calls.{Call, runCalls, acceptedCalls, addedCarbon}
 use Rattle.recurrence.specs.Recurrence.{Exact, Leads, exactStart, feed}
 

@@ -10,9 +10,9 @@ use Rattle.exact.specs.Fraction.{Fraction, _≼_, ratio, whole, _⊞_, _⊟_, _
 use Rattle.factors.specs.Factors.{clayNumber}
 use Rattle.survival.specs.Survival.{survivalNumber}
 use Rattle.decay.specs.Decay.{gramsAt}
-use Rattle.month.specs.declared.Soil.{Soil}
-use Rattle.month.specs.declared.State.{State}
-use Rattle.month.specs.declared.Entries.{Entries}
+use Rattle.state.specs.declared.Soil.{Soil}
+use Rattle.state.specs.declared.State.{State}
+use Rattle.state.specs.declared.Entries.{Entries}
 use Rattle.month.specs.Month.{deficitAfter, rateAfter}
 use Rattle.recurrence.specs.Calls.{Call, stateAfter, accepts}
 

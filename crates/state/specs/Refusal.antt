@@ -6,13 +6,13 @@ use lib.IntN.{ℤ, pos, negsuc, natAbs}
 use lib.Signed.{ltZ}
 use Rattle.water.specs.Water.{maxDeficit}
 use Rattle.decay.specs.Decay.{total}
-use Rattle.month.specs.declared.Soil.{Soil}
-use Rattle.month.specs.declared.State.{State}
-use Rattle.month.specs.declared.Entries.{Entries}
-use Rattle.month.specs.declared.Check.{Check}
-use Rattle.month.specs.declared.Check.the-variants.{Pass, Refuse}
-use Rattle.month.specs.declared.Refusal.{Refusal}
-use Rattle.month.specs.declared.Refusal.the-variants.{
+use Rattle.state.specs.declared.Soil.{Soil}
+use Rattle.state.specs.declared.State.{State}
+use Rattle.state.specs.declared.Entries.{Entries}
+use Rattle.state.specs.declared.Check.{Check}
+use Rattle.state.specs.declared.Check.the-variants.{Pass, Refuse}
+use Rattle.state.specs.declared.Refusal.{Refusal}
+use Rattle.state.specs.declared.Refusal.the-variants.{
   Clay,
   Depth,
   Kind,

@@ -1,0 +1,3 @@
+pub mod NewState
+pub mod Refusal
+pub mod Accepted
