@@ -8,3 +8,4 @@ pub mod Tests
 pub mod Nearest
 pub mod Fraction
 pub mod Close
+pub mod Apart

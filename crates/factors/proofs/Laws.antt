@@ -11,21 +11,30 @@ use Rattle.exact.proofs.Tests.{allPass, entry}
 use Rattle.exact.proofs.Nearest.{nearestTest, halfTest, minusSum, plusSum, nearest-by-test}
 use Rattle.factors.specs.TemperatureTable.{temperatureTable}
 use Rattle.factors.specs.ClayTable.{clayTable}
-use Rattle.factors.specs.Factors.{temperatureNum, temperatureDen, clayNum, clayDen}
+use Rattle.factors.specs.Factors.{
+  temperatureNum,
+  temperatureDen,
+  temperatureExponentNum,
+  temperatureExponentDen,
+  clayNum,
+  clayDen,
+  clayExponentNum,
+  clayExponentDen,
+}
 
 -- sums of 34 and 35 terms
 temperatureTest : ℕ → ℕ → Bool
-temperatureTest i a = nearestTest a temperatureNum temperatureDen 10606 (10 * i + 1327) 33 34
+temperatureTest i a = nearestTest a temperatureNum temperatureDen temperatureExponentNum (temperatureExponentDen i) 33 34
 
 temperature-tested : T (allPass temperatureTest 0 temperatureTable)
-unfolding temperatureTest temperatureTable nearestTest halfTest minusSum plusSum temperatureNum temperatureDen agreeing opposing denominator
+unfolding temperatureTest temperatureExponentNum temperatureExponentDen temperatureTable nearestTest halfTest minusSum plusSum temperatureNum temperatureDen agreeing opposing denominator
 temperature-tested = tt
 
 clayTest : ℕ → ℕ → Bool
-clayTest c r = nearestTest r clayNum clayDen (393 * c) 50000 33 34
+clayTest c r = nearestTest r clayNum clayDen (clayExponentNum c) clayExponentDen 33 34
 
 clay-tested : T (allPass clayTest 0 clayTable)
-unfolding clayTest clayTable nearestTest halfTest minusSum plusSum clayNum clayDen agreeing opposing denominator
+unfolding clayTest clayExponentNum clayExponentDen clayTable nearestTest halfTest minusSum plusSum clayNum clayDen agreeing opposing denominator
 clay-tested = tt
 
 temperature-length : length temperatureTable ≡ 551
@@ -37,17 +46,17 @@ unfolding clayTable
 clay-length = refl
 
 -- place i of the table of step 1 has the nearest number
-pub temperature-nearest : (i : ℕ) → i < 551 → Nearest (getD temperatureTable i 0) temperatureNum temperatureDen 10606 (10 * i + 1327)
-unfolding temperatureTest
+pub temperature-nearest : (i : ℕ) → i < 551 → Nearest (getD temperatureTable i 0) temperatureNum temperatureDen temperatureExponentNum (temperatureExponentDen i)
+unfolding temperatureTest temperatureExponentDen
 temperature-nearest i h =
-    nearest-by-test (getD temperatureTable i 0) temperatureNum temperatureDen 10606 (10 * i + 1327) 33 34 (omega arith) refl refl
+    nearest-by-test (getD temperatureTable i 0) temperatureNum temperatureDen temperatureExponentNum (temperatureExponentDen i) 33 34 (omega arith) refl refl
     (entry temperatureTest temperatureTable temperature-tested i (omega (arith, temperature-length)))
 
 -- place c of the table of step 2 has the nearest number
-pub clay-nearest : (c : ℕ) → c ≤ 1000 → Nearest (getD clayTable c 0) clayNum clayDen (393 * c) 50000
-unfolding clayTest
+pub clay-nearest : (c : ℕ) → c ≤ 1000 → Nearest (getD clayTable c 0) clayNum clayDen (clayExponentNum c) clayExponentDen
+unfolding clayTest clayExponentDen
 clay-nearest c h =
-    nearest-by-test (getD clayTable c 0) clayNum clayDen (393 * c) 50000 33 34 (lit< tt) refl refl
+    nearest-by-test (getD clayTable c 0) clayNum clayDen (clayExponentNum c) clayExponentDen 33 34 (lit< tt) refl refl
     (entry clayTest clayTable clay-tested c (omega (arith, clay-length)))
 
 -- the largest entries

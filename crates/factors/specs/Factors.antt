@@ -23,9 +23,16 @@ temperatureNum x y = 479100 * x
 unfoldable pub temperatureDen : ℕ → ℕ → ℕ
 temperatureDen x y = x + y
 
--- The rule of step 1. At place i, T is i - 50, and u = 106.06 / (T/10 + 18.27) = 10,606 / (10 × T + 1827).
+-- u = 106.06 / (T/10 + 18.27) = 10,606 / (10 × T + 1827). At place i of the table, T is i - 50.
+unfoldable pub temperatureExponentNum : ℕ
+temperatureExponentNum = 10606
+
+unfoldable pub temperatureExponentDen : ℕ → ℕ
+temperatureExponentDen i = 10 * i + 1327
+
+-- The rule of step 1: A is the nearest number; below -50, 0.
 unfoldable pub IsFactorAt : ℤ → ℕ → Type 0
-IsFactorAt (pos i) a = Nearest a temperatureNum temperatureDen 10606 (10 * i + 1327)
+IsFactorAt (pos i) a = Nearest a temperatureNum temperatureDen temperatureExponentNum (temperatureExponentDen i)
 IsFactorAt (negsuc i) a = a ≡ 0
 
 unfoldable pub IsTemperatureFactor : ℤ → ℕ → Type 0
@@ -43,6 +50,13 @@ clayNum x y = 10000000000 * y
 unfoldable pub clayDen : ℕ → ℕ → ℕ
 clayDen x y = 40895 * y + 26720 * x
 
--- The rule of step 2: 0.00786 × C = 393 × C / 50,000.
+-- The exponent: 0.00786 × C = 393 × C / 50,000.
+unfoldable pub clayExponentNum : ℕ → ℕ
+clayExponentNum c = 393 * c
+
+unfoldable pub clayExponentDen : ℕ
+clayExponentDen = 50000
+
+-- The rule of step 2: R is the nearest number.
 unfoldable pub IsClayNumber : ℕ → ℕ → Type 0
-IsClayNumber c r = Nearest r clayNum clayDen (393 * c) 50000
+IsClayNumber c r = Nearest r clayNum clayDen (clayExponentNum c) clayExponentDen

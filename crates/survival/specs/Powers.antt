@@ -1,16 +1,16 @@
 -- The two small tables behind the survival number, which together give e^(-i/64) for i up to 479.
--- Their rule is shown over all 480 places (proofs/Table.antt).
+-- That the two together are at most 4 from 1,024,000,000,000 × e^(-i/64) is shown over all 480 places (proofs/Table.antt).
 use mathlib.Core.List.{List, [], _∷_}
 use Prim.Native.Nat.{ℕ, _*_, _/_, _%_, _^_}
 use lib.ListN.{getD}
 
--- At place h the whole number nearest to 1,024,000,000,000 × e^(-h/2).
+-- At place h 1,024,000,000,000 × e^(-h/2), rounded.
 unfoldable pub halfPowers : List ℕ
 halfPowers =
     1024000000000 ∷ 621087395546 ∷ 376708547760 ∷ 228485283992 ∷ 138583330034 ∷ 84055038591 ∷ 50981958009 ∷ 30922120624 ∷
     18755214222 ∷ 11375612455 ∷ 6899657727 ∷ 4184853953 ∷ 2538242229 ∷ 1539521734 ∷ 933767133 ∷ []
 
--- At place j the whole number nearest to 2^38 × e^(-j/64).
+-- At place j 2^38 × e^(-j/64), rounded.
 unfoldable pub finePowers : List ℕ
 finePowers =
     274877906944 ∷ 270616319998 ∷ 266420802833 ∷ 262290331134 ∷ 258223896462 ∷ 254220506017 ∷ 250279182387 ∷ 246398963317 ∷
