@@ -79,8 +79,8 @@ PRINTED = [0, 0, 0, 0, 1025, 2750, 4494, 4494, 3869, 819, 0, 0]
 def vectors():
     """Rate numbers N of steps 1 to 4, from hot and wet to cold and dry, with the ends of the range."""
     out = [(n, k) for n in (0, 1, 8363900000) for k in (1000, 30, 66, 2)]
-    for t in (-50, 34, 93, 133, 200, 301, 447):
-        for b in (10000, 7585, 2000):
+    for t in (-50, 93, 301):
+        for b in (10000, 2000):
             for cover in (6, 10):
                 for k in (1000, 30, 66, 2):
                     out.append((temperature_factor(t) * b * cover, k))

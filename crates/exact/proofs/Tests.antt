@@ -54,6 +54,13 @@ entry-from test (x ∷ xs) i t (suc k) h =
 pub entry : (test : ℕ → ℕ → Bool) (xs : List ℕ) → T (allPass test 0 xs) → (k : ℕ) → k < length xs → T (test k (getD xs k 0))
 entry test xs t k h = subst (λ n. T (test n (getD xs k 0))) (zero-add k) (entry-from test xs 0 t k h)
 
+-- a bound on every entry
+abbrev pub atMost : ℕ → ℕ → ℕ → Bool
+atMost top i x = leb x top
+
+pub entry-most : (top : ℕ) (xs : List ℕ) → T (allPass (atMost top) 0 xs) → (k : ℕ) → k < length xs → getD xs k 0 ≤ top
+entry-most top xs t k h = leb→le (getD xs k 0) top (entry (atMost top) xs t k h)
+
 -- each number below n passes a test
 abbrev pub allBelow : (ℕ → Bool) → ℕ → Bool
 allBelow test zero = true

@@ -4,10 +4,10 @@ use mathlib.Core.Path.{_≡_, refl}
 use mathlib.Core.Bool.{Bool}
 use Prim.Native.Nat.{ℕ, _+_, _*_, _≤_, _<_}
 use native.Mathlib.Omega.{arith}
-use lib.Dec.{T, leb, leb→le, lit<}
+use lib.Dec.{T, lit<}
 use lib.ListN.{length, getD}
 use Rattle.exact.specs.Exponential.{agreeing, opposing, denominator, Nearest}
-use Rattle.exact.proofs.Tests.{allPass, entry}
+use Rattle.exact.proofs.Tests.{allPass, entry, atMost, entry-most}
 use Rattle.exact.proofs.Nearest.{nearestTest, halfTest, minusSum, plusSum, nearest-by-test}
 use Rattle.factors.specs.TemperatureTable.{temperatureTable}
 use Rattle.factors.specs.ClayTable.{clayTable}
@@ -60,22 +60,16 @@ clay-nearest c h =
     (entry clayTest clayTable clay-tested c (omega (arith, clay-length)))
 
 -- the largest entries
-most : ℕ → ℕ → ℕ → Bool
-most top i x = leb x top
-
-temperature-all-most : T (allPass (most 83639) 0 temperatureTable)
-unfolding temperatureTable most
+temperature-all-most : T (allPass (atMost 83639) 0 temperatureTable)
+unfolding temperatureTable
 temperature-all-most = tt
 
-clay-all-most : T (allPass (most 244467) 0 clayTable)
-unfolding clayTable most
+clay-all-most : T (allPass (atMost 244467) 0 clayTable)
+unfolding clayTable
 clay-all-most = tt
 
 pub temperature-most : (i : ℕ) → i < 551 → getD temperatureTable i 0 ≤ 83639
-unfolding most
-temperature-most i h =
-    leb→le (getD temperatureTable i 0) 83639 (entry (most 83639) temperatureTable temperature-all-most i (omega (arith, temperature-length)))
+temperature-most i h = entry-most 83639 temperatureTable temperature-all-most i (omega (arith, temperature-length))
 
 pub clay-most : (c : ℕ) → c ≤ 1000 → getD clayTable c 0 ≤ 244467
-unfolding most
-clay-most c h = leb→le (getD clayTable c 0) 244467 (entry (most 244467) clayTable clay-all-most c (omega (arith, clay-length)))
+clay-most c h = entry-most 244467 clayTable clay-all-most c (omega (arith, clay-length))

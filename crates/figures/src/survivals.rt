@@ -20,7 +20,7 @@ fn near(n: u64, k: u64, expected: u64) -> bool {
 
 // Whether vector i passes.
 fn passes(i: usize) -> bool
-    requires { ⌜ i < 180 ⌝ }
+    requires { ⌜ i < 60 ⌝ }
 {
     near(VECTORS[3 * i], VECTORS[3 * i + 1], VECTORS[3 * i + 2])
 }
@@ -29,7 +29,7 @@ fn passes(i: usize) -> bool
 fn passing() -> u64 {
     let mut passed: u64 = 0;
     let mut i: usize = 0;
-    while i < 180 {
+    while i < 60 {
         if passes(i) {
             passed += 1;
         }

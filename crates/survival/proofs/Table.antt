@@ -7,7 +7,7 @@ use lib.ListN.{length, getD}
 use native.Mathlib.Omega.{arith}
 use lib.Dec.{T, leb, leb→le, lit<}
 use Rattle.exact.specs.Exponential.{agreeing, opposing, denominator, AtMostFrom}
-use Rattle.exact.proofs.Tests.{belowSum, aboveSum, below-by-test, above-by-test, and-left, and-right, allBelow, allPass, entry}
+use Rattle.exact.proofs.Tests.{belowSum, aboveSum, below-by-test, above-by-test, and-left, and-right, allBelow, allPass, atMost, entry-most}
 use Rattle.exact.proofs.Tests as Tests
 use Rattle.survival.specs.Powers.{halfPowers, finePowers, powerAt}
 
@@ -38,15 +38,12 @@ pub powers-least : (i : ℕ) → i < 480 → 4 ≤ powerAt i
 unfolding near
 powers-least i h = leb→le 4 (powerAt i) (and-left (leb 4 (powerAt i)) _ (Tests.below near 480 all-near i h))
 
-most : ℕ → ℕ → ℕ → Bool
-most top i x = leb x top
-
-half-all-most : T (allPass (most 1024000000000) 0 halfPowers)
-unfolding halfPowers most
+half-all-most : T (allPass (atMost 1024000000000) 0 halfPowers)
+unfolding halfPowers
 half-all-most = tt
 
-fine-all-most : T (allPass (most 274877906944) 0 finePowers)
-unfolding finePowers most
+fine-all-most : T (allPass (atMost 274877906944) 0 finePowers)
+unfolding finePowers
 fine-all-most = tt
 
 lengths : (length halfPowers ≡ 15) × (length finePowers ≡ 32)
@@ -55,9 +52,7 @@ lengths = (refl, refl)
 
 -- the entries of each table are within its scale
 pub half-most : (h : ℕ) → h < 15 → getD halfPowers h 0 ≤ 1024000000000
-unfolding most
-half-most h lt = leb→le (getD halfPowers h 0) 1024000000000 (entry (most 1024000000000) halfPowers half-all-most h (omega (arith, lengths)))
+half-most h lt = entry-most 1024000000000 halfPowers half-all-most h (omega (arith, lengths))
 
 pub fine-most : (j : ℕ) → j < 32 → getD finePowers j 0 ≤ 2 ^ 38
-unfolding most
-fine-most j lt = leb→le (getD finePowers j 0) 274877906944 (entry (most 274877906944) finePowers fine-all-most j (omega (arith, lengths)))
+fine-most j lt = entry-most 274877906944 finePowers fine-all-most j (omega (arith, lengths))

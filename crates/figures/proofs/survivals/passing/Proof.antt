@@ -8,10 +8,10 @@ use Rattle.figures.proofs.survivals.passing.Statement.{statement}
 use Rattle.figures.proofs.survivals.passing.Tie as tie
 
 abbrev Inv-loop : tie.InvT-loop
-Inv-loop passed₀ i₀ passed i = (i ≤ 180) × (passed ≤ i)
+Inv-loop passed₀ i₀ passed i = (i ≤ 60) × (passed ≤ i)
 
 abbrev μ-loop : tie.MeasureT-loop
-μ-loop passed₀ i₀ passed i = 180 - i
+μ-loop passed₀ i₀ passed i = 60 - i
 
 loop-holds : tie.Need-loop-holds Inv-loop μ-loop
 loop-holds c = omega arith
