@@ -23,7 +23,7 @@ pub fn survivals(n: u64) -> [u64; 4]
 }
 
 // part of the whole equal parts of x, rounded down. x is divided first, so that no product passes 64 bits for any x.
-pub fn share(x: u64, part: u64, whole: u64) -> u64
+fn share(x: u64, part: u64, whole: u64) -> u64
     requires { ⌜ (0 < whole) × (whole ≤ 1000000000) × (part ≤ whole) ⌝ }
     ensures { λ r. ⌜ (r ≡ share x part whole) × (r ≤ x) ⌝ }
 {
@@ -31,7 +31,7 @@ pub fn share(x: u64, part: u64, whole: u64) -> u64
 }
 
 // What a pool of y grams loses at the survival number s.
-pub fn loss(y: Grams, s: u64) -> Grams
+fn loss(y: Grams, s: u64) -> Grams
     requires { ⌜ s ≤ 1000000000 ⌝ }
     ensures { λ r. ⌜ r .0 ≡ lost (y .0) s ⌝ }
 {
@@ -61,7 +61,7 @@ pub fn total(grams: [Grams; 4]) -> Grams
 }
 
 // What losses of l grams together form at the clay number r.
-pub fn formed(l: Grams, r: u64) -> Grams
+fn formed(l: Grams, r: u64) -> Grams
     requires { ⌜ r ≤ 1000000 ⌝ }
     ensures { λ made. ⌜ made .0 ≡ formed (l .0) r ⌝ }
 {
@@ -69,7 +69,7 @@ pub fn formed(l: Grams, r: u64) -> Grams
 }
 
 // What BIO gains of f grams formed.
-pub fn to_bio(f: Grams) -> Grams
+fn to_bio(f: Grams) -> Grams
     ensures { λ r. ⌜ r .0 ≡ toBio (f .0) ⌝ }
 {
     Grams(share(f.0, 46, 100))
@@ -113,7 +113,7 @@ pub fn decay(pools: [Grams; 4], survival: [u64; 4], r: u64) -> Decayed
 }
 
 // What DPM gets of plant carbon of a kind.
-pub fn plant_to_dpm(kind: u64, plant: Grams) -> Grams
+fn plant_to_dpm(kind: u64, plant: Grams) -> Grams
     requires { ⌜ (1 ≤ kind) × (kind ≤ 3) ⌝ }
     ensures { λ r. ⌜ r .0 ≡ plantToDpm kind (plant .0) ⌝ }
 {
@@ -127,14 +127,14 @@ pub fn plant_to_dpm(kind: u64, plant: Grams) -> Grams
 }
 
 // What DPM gets of manure.
-pub fn manure_to_dpm(manure: Grams) -> Grams
+fn manure_to_dpm(manure: Grams) -> Grams
     ensures { λ r. ⌜ r .0 ≡ manureToDpm (manure .0) ⌝ }
 {
     Grams(share(manure.0, 49, 100))
 }
 
 // What HUM gets of manure.
-pub fn manure_to_hum(manure: Grams) -> Grams
+fn manure_to_hum(manure: Grams) -> Grams
     ensures { λ r. ⌜ r .0 ≡ manureToHum (manure .0) ⌝ }
 {
     Grams(share(manure.0, 2, 100))

@@ -15,7 +15,7 @@ pub fn max_deficit(clay: u64, depth: u64) -> Parts
 }
 
 // The bare limit, 5/9 of M.
-pub fn bare_limit(m: Parts) -> Parts
+fn bare_limit(m: Parts) -> Parts
     requires { ⌜ m .0 ≤ 560250000 ⌝ }
     ensures { λ r. ⌜ r .0 ≡ bareLimit (m .0) ⌝ }
 {
