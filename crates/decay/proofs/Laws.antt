@@ -4,13 +4,13 @@
 use Prim.Native.Nat.{ℕ, _+_, _-_, _*_, _/_, _%_, _≤_, _<_}
 use mathlib.Core.Path.{_≡_, refl, sym, ap, _∙_}
 use mathlib.Core.List.{List, [], _∷_}
-use mathlib.Core.Bool.{Bool, true, false}
+use mathlib.Core.Bool.{Bool, true, false, cond}
 use native.Mathlib.Nat.{div-mul-le-self, lt-div-mul-add, div-le-of-le-mul, mul-div-cancel, mul-add-div-right, div-add-mod', mul-le-mul-left}
 use native.Mathlib.Omega.{arith}
 use lib.Dec.{lit<, eqb}
 use lib.ListN.{length, getD}
 use Rattle.units.specs.declared.Grams.{Grams}
-use Rattle.decay.specs.Decay.{share, grams, gramsAt, total, Survivals, Within, kept, lost, losses, formed, carbonDioxide, toBio, toHum, split, decayed, pick, plantToDpm, plantToRpm, manureToDpm, manureToHum, manureToRpm, added}
+use Rattle.decay.specs.Decay.{share, grams, gramsAt, total, Survivals, Within, kept, lost, losses, formed, carbonDioxide, toBio, toHum, split, decayed, plantToDpm, plantToRpm, manureToDpm, manureToHum, manureToRpm, added}
 
 -- The roundings of step 5 at small numbers: of 3 g a pool at half survival keeps 1 and loses 2; of a loss of 3 g at half
 -- 1 is formed and 2 are CO2; of 5 g formed BIO gains 2 (of 2.3) and HUM 3 (of 2.7).
@@ -133,14 +133,14 @@ decay-balance pools survival r s h =
       bio-hum (formed l r),
     )
 
-pick-le : (t : Bool) {a b x : ℕ} → a ≤ x → b ≤ x → pick t a b ≤ x
-pick-le true ha hb = ha
-pick-le false ha hb = hb
+cond-le : (t : Bool) {a b x : ℕ} → a ≤ x → b ≤ x → cond t a b ≤ x
+cond-le true ha hb = ha
+cond-le false ha hb = hb
 
 -- DPM gets at most the plant carbon, whatever the kind.
 pub plant-le : (kind plant : ℕ) → plantToDpm kind plant ≤ plant
 unfolding plantToDpm share
-plant-le kind plant = pick-le (eqb kind 1) (omega arith) (pick-le (eqb kind 2) (omega arith) (omega arith))
+plant-le kind plant = cond-le (eqb kind 1) (omega arith) (cond-le (eqb kind 2) (omega arith) (omega arith))
 
 -- DPM and RPM together get the plant carbon.
 pub plant-parts : (kind plant : ℕ) → plantToDpm kind plant + plantToRpm kind plant ≡ plant

@@ -2,7 +2,7 @@
 -- Four pools, or their four losses, are a list of grams in the order DPM, RPM, BIO, HUM: indices 0, 1, 2, 3.
 use Prim.Native.Nat.{ℕ, _+_, _-_, _*_, _/_, _≤_}
 use mathlib.Core.List.{List, [], _∷_}
-use mathlib.Core.Bool.{Bool, true, false}
+use mathlib.Core.Bool.{cond}
 use lib.ListN.{getD}
 use lib.Dec.{eqb}
 use Rattle.units.specs.declared.Grams.{Grams}
@@ -89,14 +89,10 @@ pub record Within (given pools : List Grams) : Type 0 where
   pub bio : gramsAt given 2 ≤ gramsAt pools 2
   pub hum : gramsAt given 3 ≤ gramsAt pools 3
 
--- One of two numbers, by a test.
-abbrev pub pick : Bool → ℕ → ℕ → ℕ
-pick true a b = a
-pick false a b = b
-
 -- Step 6: of plant carbon DPM gets 36/61 (kind 1), 67/167 (kind 2) or 1/5 (kind 3), rounded down.
+-- (`cond` gives the first where the test is true.)
 unfoldable pub plantToDpm : ℕ → ℕ → ℕ
-plantToDpm kind plant = pick (eqb kind 1) (share plant 36 61) (pick (eqb kind 2) (share plant 67 167) (share plant 1 5))
+plantToDpm kind plant = cond (eqb kind 1) (share plant 36 61) (cond (eqb kind 2) (share plant 67 167) (share plant 1 5))
 
 -- Step 6: RPM gets the rest of the plant carbon.
 abbrev pub plantToRpm : ℕ → ℕ → ℕ

@@ -3,10 +3,6 @@ use mathlib.Core.List.{List, [], _∷_}
 use Prim.Native.Nat.{ℕ}
 use Rattle.survival.specs.Survival.{survivalNumber}
 
--- K of DPM, RPM, BIO and HUM, in hundredths a year.
-abbrev pub rates : List ℕ
-rates = 1000 ∷ 30 ∷ 66 ∷ 2 ∷ []
-
--- S of the four pools at the rate number n.
+-- S of the four pools at the rate number n, their rates K being 1000, 30, 66 and 2 hundredths a year (DPM, RPM, BIO, HUM).
 unfoldable pub survivals : ℕ → List ℕ
 survivals n = survivalNumber n 1000 ∷ survivalNumber n 30 ∷ survivalNumber n 66 ∷ survivalNumber n 2 ∷ []

@@ -38,7 +38,7 @@ IsFactorAt (negsuc i) a = a ≡ 0
 unfoldable pub IsTemperatureFactor : ℤ → ℕ → Type 0
 IsTemperatureFactor t a = IsFactorAt (t +ℤ pos 50) a
 
--- Step 2: R for the clay C in tenths of a percent.
+-- Step 2: R for the clay C in tenths of a percent: the part of the decayed carbon that forms BIO and HUM, in millionths.
 unfoldable pub clayNumber : ℕ → ℕ
 clayNumber c = getD clayTable c 0
 

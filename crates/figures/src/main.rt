@@ -5,6 +5,7 @@ mod survival_vectors;
 mod survivals;
 
 ghost use Prim.Native.Nat.{_≤_};
+ghost use Rattle.figures.specs.Figures.{KnownFigures};
 use libc::STDOUT_FILENO;
 use units::Grams;
 use units::Parts;
@@ -78,11 +79,18 @@ fn additions() {
     line(b"manure 99 HUM", manure[3].0);
 }
 
-fn main() {
+// The known figures that need no month call. Those marked (P) are proved together, and stand in this promise.
+fn known_figures()
+    ensures { λ r. ⌜ KnownFigures ⌝ }
+{
     temperatures();
     clays();
     moistures();
     additions();
+}
+
+fn main() {
+    known_figures();
     deficits::rothamsted();
     survivals::within_one();
 }

@@ -1,6 +1,6 @@
 -- Laws of the single month call: what is accepted and refused, that a refusal changes nothing, and what an accepted month
--- does to a state. proofs/Refusals.antt has the condition of each number, and proofs/Checks.antt and proofs/Steps.antt what
--- these laws are made of.
+-- does to a state. The crate `state` has the condition of each number and what its checks leave; Steps.antt
+-- has what the steps need.
 -- Assumes nothing.
 use mathlib.Core.Path.{_≡_, refl, _∙_, ap}
 use Prim.Native.Nat.{ℕ, _+_, _≤_}
@@ -12,15 +12,16 @@ use Rattle.decay.specs.Decay.{Survivals, total}
 use Rattle.state.specs.declared.Soil.{Soil}
 use Rattle.state.specs.declared.State.{State}
 use Rattle.state.specs.declared.Entries.{Entries}
+use Rattle.state.specs.declared.Check.{Check}
 use Rattle.state.specs.declared.Check.the-variants.{Pass, Refuse}
 use Rattle.state.specs.declared.Refusal.{Refusal}
 use Rattle.state.specs.declared.Refusal.the-variants.{Turn}
 use Rattle.month.specs.declared.Answer.the-variants.{Refused}
 use Rattle.month.specs.declared.Outcome.{Outcome}
-use Rattle.state.specs.Refusal.{soilCheck, stateCheck, entriesCheck, turnCheck, monthCheck}
+use Rattle.state.specs.Refusal.{checkNumber, soilCheck, stateCheck, entriesCheck, turnCheck, monthCheck}
 use Rattle.state.specs.Accepted.{Sound, Ready}
 use Rattle.state.specs.NewState.{newState}
-use Rattle.month.specs.Month.{soilDeficit, stateDeficit, stateRate, movedTo, outcomeOf, monthCall}
+use Rattle.month.specs.Month.{largestDeficit, nextDeficit, nextRate, movedTo, outcomeOf, answerNumber, monthCall}
 use Rattle.state.proofs.Checks.{sound-soil, sound-state, state-passes, natural-most, ready, entries-pass, month-parts, month-passes}
 use Rattle.month.proofs.Steps.{deficit-most, state-rate-most, survivals-in-range, month-balance}
 
@@ -66,9 +67,19 @@ pub accepted-runs :
 unfolding monthCall
 accepted-runs s number e h = rw h
 
+-- The number of the answer is that of what the checks find.
+outcome-number : (check : Check) (s : State) (e : Entries) → answerNumber (outcomeOf check s e .answer) ≡ checkNumber check
+unfolding outcomeOf
+outcome-number Pass s e = refl
+outcome-number (Refuse refusal) s e = refl
+
+pub call-number : (s : State) (number : ℕ) (e : Entries) → answerNumber (monthCall s number e .answer) ≡ checkNumber (monthCheck s number e)
+unfolding monthCall
+call-number s number e = outcome-number (monthCheck s number e) s e
+
 -- The state after an accepted month.
 abbrev pub nextState : State → Entries → State
-nextState s e = movedTo s e (stateDeficit s e) (stateRate s e)
+nextState s e = movedTo s e (nextDeficit s e) (nextRate s e)
 
 pub next-is : (s : State) (e : Entries) → outcomeOf Pass s e .state ≡ nextState s e
 unfolding outcomeOf
@@ -88,7 +99,7 @@ pub record SameSoil (before after : Soil) : Type 0 where
 pub record Moved (s : State) (e : Entries) (after : State) : Type 0 where
   pub soil : SameSoil (s .soil) (after .soil)
   pub months : after .months ≡ s .months + 1
-  pub deficit : after .deficit .0 ≤ soilDeficit (s .soil)
+  pub deficit : after .deficit .0 ≤ largestDeficit (s .soil)
   pub balance :
       total (after .soil .pools) + after .co2 .0
       ≡ total (s .soil .pools) + s .co2 .0 + natAbs (e .plant) + natAbs (e .manure)
@@ -98,20 +109,20 @@ pub record Moved (s : State) (e : Entries) (after : State) : Type 0 where
 
 module _ (s : State) (e : Entries) (h : Sound s) (r : Ready s e) where
   -- The rate number is at most 8,363,900,000, and so step 4's survival numbers are in their range.
-  pub rate-range : stateRate s e ≤ 8363900000
+  pub rate-range : nextRate s e ≤ 8363900000
   rate-range = state-rate-most s e h r
 
-  pub survivals-range : Survivals (survivals (stateRate s e))
-  survivals-range = survivals-in-range (stateRate s e) rate-range
+  pub survivals-range : Survivals (survivals (nextRate s e))
+  survivals-range = survivals-in-range (nextRate s e) rate-range
 
   balance : total (nextState s e .soil .pools) + nextState s e .co2 .0
       ≡ total (s .soil .pools) + s .co2 .0 + natAbs (e .plant) + natAbs (e .manure)
   unfolding movedTo
-  balance = omega (arith, month-balance (s .soil) (stateRate s e) e (h .soil) rate-range)
+  balance = omega (arith, month-balance (s .soil) (nextRate s e) e (h .soil) rate-range)
 
   lighter : total (nextState s e .soil .pools) ≤ total (s .soil .pools) + natAbs (e .plant) + natAbs (e .manure)
   unfolding movedTo
-  lighter = omega (arith, month-balance (s .soil) (stateRate s e) e (h .soil) rate-range)
+  lighter = omega (arith, month-balance (s .soil) (nextRate s e) e (h .soil) rate-range)
 
   -- The next state is sound too.
   next-sound : Sound (nextState s e)

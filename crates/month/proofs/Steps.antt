@@ -23,7 +23,7 @@ use Rattle.state.specs.declared.Soil.{Soil}
 use Rattle.state.specs.declared.State.{State}
 use Rattle.state.specs.declared.Entries.{Entries}
 use Rattle.state.specs.Accepted.{SoundSoil, Sound, Ready}
-use Rattle.month.specs.Month.{crop, soilDeficit, deficitAfter, rateAfter, stateDeficit, stateRate, poolsAfter, gasOf}
+use Rattle.month.specs.Month.{crop, largestDeficit, deficitAfter, rateAfter, nextDeficit, nextRate, poolsAfter, gasOf}
 
 temperature-by : (t : ℤ) (b : Bool) → ltZ t (negsuc 49) ≡ b → t ≤ℤ pos 500 → temperatureFactor t ≤ 83639
 temperature-by t true low high = rw (sym (below-table t low .0)) (lit≤ tt)
@@ -46,7 +46,7 @@ cover-most true = lit≤ tt
 cover-most false = lit≤ tt
 
 -- M of a sound soil is above 0 and at most 560,250,000.
-pub deficit-range : (s : Soil) → SoundSoil s → (0 < soilDeficit s) × (soilDeficit s ≤ 560250000)
+pub deficit-range : (s : Soil) → SoundSoil s → (0 < largestDeficit s) × (largestDeficit s ≤ 560250000)
 deficit-range s h =
     (maxDeficit-positive (s .clay) (s .depth) (h .clay) (h .shallowest), maxDeficit-top (s .clay) (s .depth) (h .deepest))
 
@@ -56,16 +56,16 @@ pub rate-most :
 unfolding rateAfter rateNumber
 rate-most s d e h t =
     mul-le-mul
-    (mul-le-mul (temperature-most (e .temperature) t) (moistureFactor-top (soilDeficit s) d (deficit-range s h .0)))
+    (mul-le-mul (temperature-most (e .temperature) t) (moistureFactor-top (largestDeficit s) d (deficit-range s h .0)))
     (cover-most (crop e))
 
-pub state-rate-most : (s : State) (e : Entries) → Sound s → Ready s e → stateRate s e ≤ 8363900000
-unfolding stateRate
-state-rate-most s e h r = rate-most (s .soil) (stateDeficit s e) e (h .soil) (r .temperature .to)
+pub state-rate-most : (s : State) (e : Entries) → Sound s → Ready s e → nextRate s e ≤ 8363900000
+unfolding nextRate
+state-rate-most s e h r = rate-most (s .soil) (nextDeficit s e) e (h .soil) (r .temperature .to)
 
 -- The new deficit is at most M.
-pub deficit-most : (s : State) (e : Entries) → Sound s → stateDeficit s e ≤ soilDeficit (s .soil)
-unfolding stateDeficit deficitAfter
+pub deficit-most : (s : State) (e : Entries) → Sound s → nextDeficit s e ≤ largestDeficit (s .soil)
+unfolding nextDeficit deficitAfter
 deficit-most s e h = newDeficit-top _ _ _ _ _ (h .deficit)
 
 -- The survival numbers are at most 1,000,000,000.

@@ -16,25 +16,26 @@ use Rattle.state.specs.declared.Entries.{Entries}
 use Rattle.state.specs.declared.Check.{Check}
 use Rattle.state.specs.declared.Check.the-variants.{Pass, Refuse}
 use Rattle.month.specs.declared.Row.{Row}
+use Rattle.month.specs.declared.Answer.{Answer}
 use Rattle.month.specs.declared.Answer.the-variants.{Done, Refused}
 use Rattle.month.specs.declared.Outcome.{Outcome}
-use Rattle.state.specs.Refusal.{monthCheck}
+use Rattle.state.specs.Refusal.{refusalNumber, monthCheck}
 
 -- The entries of an accepted month are 0 or more, but for the temperature. Cover 1 is a crop.
 abbrev pub crop : Entries → Bool
 crop e = eqb (natAbs (e .cover)) 1
 
 -- M of a soil.
-abbrev pub soilDeficit : Soil → ℕ
-soilDeficit s = maxDeficit (s .clay) (s .depth)
+abbrev pub largestDeficit : Soil → ℕ
+largestDeficit s = maxDeficit (s .clay) (s .depth)
 
 -- Step 3: the new deficit, from the deficit d before the month.
 unfoldable pub deficitAfter : Soil → ℕ → Entries → ℕ
-deficitAfter s d e = newDeficit (crop e) (soilDeficit s) d (natAbs (e .evaporation)) (natAbs (e .rain))
+deficitAfter s d e = newDeficit (crop e) (largestDeficit s) d (natAbs (e .evaporation)) (natAbs (e .rain))
 
--- Steps 1, 3 and 4: N, from the new deficit d.
+-- Steps 1, 3 and 4: N, from the new deficit d. (001's rate modifying factors a, b and c, multiplied.)
 unfoldable pub rateAfter : Soil → ℕ → Entries → ℕ
-rateAfter s d e = rateNumber (crop e) (temperatureFactor (e .temperature)) (moistureFactor (soilDeficit s) d)
+rateAfter s d e = rateNumber (crop e) (temperatureFactor (e .temperature)) (moistureFactor (largestDeficit s) d)
 
 -- Steps 5 and 6: the pools after a month of rate number n. The additions come after the decay.
 unfoldable pub poolsAfter : Soil → ℕ → Entries → List Grams
@@ -74,20 +75,29 @@ rowOf s e d n =
     }
 
 -- The new deficit and the rate number of a state's month.
-unfoldable pub stateDeficit : State → Entries → ℕ
-stateDeficit s e = deficitAfter (s .soil) (s .deficit .0) e
+unfoldable pub nextDeficit : State → Entries → ℕ
+nextDeficit s e = deficitAfter (s .soil) (s .deficit .0) e
 
-unfoldable pub stateRate : State → Entries → ℕ
-stateRate s e = rateAfter (s .soil) (stateDeficit s e) e
+unfoldable pub nextRate : State → Entries → ℕ
+nextRate s e = rateAfter (s .soil) (nextDeficit s e) e
 
 -- An accepted month gives its row and the state moved on; a refused one the refusal and the very state that it was given.
 unfoldable pub outcomeOf : Check → State → Entries → Outcome
 outcomeOf Pass s e =
     record {
-      answer = Done (rowOf (s .soil) e (stateDeficit s e) (stateRate s e));
-      state = movedTo s e (stateDeficit s e) (stateRate s e);
+      answer = Done (rowOf (s .soil) e (nextDeficit s e) (nextRate s e));
+      state = movedTo s e (nextDeficit s e) (nextRate s e);
     }
 outcomeOf (Refuse refusal) s e = record { answer = Refused refusal; state = s }
+
+-- Document 01's number and place of an answer: those of its refusal, and 0 for the number of an accepted month. A refused single month
+-- call has the place 0.
+abbrev pub answerNumber : Answer → ℕ
+answerNumber (Done row) = 0
+answerNumber (Refused refusal) = refusalNumber refusal
+
+abbrev pub answerPlace : Answer → ℕ
+answerPlace answer = 0
 
 -- The single month call.
 unfoldable pub monthCall : State → ℕ → Entries → Outcome

@@ -6,9 +6,9 @@ ghost use Rattle.factors.specs.Factors.{clayNumber};
 ghost use Rattle.decay.specs.Rates.{survivals};
 ghost use Rattle.decay.specs.Decay.{total, decayed, added};
 ghost use Rattle.state.specs.declared.Check.the-variants.{Pass};
-ghost use Rattle.state.specs.Refusal.{carbonCeiling, stateCheck, entriesCheck};
+ghost use Rattle.state.specs.Refusal.{checkNumber, carbonCeiling, stateCheck, entriesCheck, monthCheck};
 ghost use Rattle.state.specs.Accepted.{Sound, Between, Ready};
-ghost use Rattle.month.specs.Month.{crop, soilDeficit, stateDeficit, rateAfter, gasOf, outcomeOf, monthCall};
+ghost use Rattle.month.specs.Month.{crop, largestDeficit, nextDeficit, rateAfter, gasOf, outcomeOf, answerNumber, monthCall};
 use decay::Decayed;
 use decay::additions;
 use decay::decay;
@@ -64,7 +64,7 @@ fn under_crop(e: Entries) -> bool
 // Step 3: the new deficit.
 fn deficit_after(s: State, e: Entries) -> Parts
     requires { ⌜ Sound s × Ready s e ⌝ }
-    ensures { λ r. ⌜ r .0 ≡ stateDeficit s e ⌝ }
+    ensures { λ r. ⌜ r .0 ≡ nextDeficit s e ⌝ }
 {
     let soil = s.soil;
     let deficit = s.deficit;
@@ -77,7 +77,7 @@ fn deficit_after(s: State, e: Entries) -> Parts
 
 // Steps 1, 3 and 4: the rate number, d being the new deficit.
 fn rate_after(s: State, d: Parts, e: Entries) -> u64
-    requires { ⌜ Sound s × Ready s e × (d .0 ≤ soilDeficit (s .soil)) ⌝ }
+    requires { ⌜ Sound s × Ready s e × (d .0 ≤ largestDeficit (s .soil)) ⌝ }
     ensures { λ r. ⌜ r ≡ rateAfter (s .soil) (d .0) e ⌝ }
 {
     let soil = s.soil;
@@ -154,9 +154,10 @@ pub fn step(s: State, e: Entries) -> Outcome
     }
 }
 
-// The single month call: an accepted month, or the refusal and the state that was given.
+// The single month call: an accepted month, or the refusal and the state that was given. The answer's number is document 01's.
 pub fn month(s: State, number: u64, e: Entries) -> Outcome
-    ensures { λ r. ⌜ r ≡ monthCall s number e ⌝ }
+    ensures outcome { λ r. ⌜ r ≡ monthCall s number e ⌝ }
+    ensures number { λ r. ⌜ answerNumber (r .answer) ≡ checkNumber (monthCheck s number e) ⌝ }
 {
     match check_month(s, number, e) {
         Check::Pass => step(s, e),

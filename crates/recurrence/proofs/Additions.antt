@@ -6,7 +6,7 @@ use lib.Dec.{lit<, eqb}
 use lib.IntN.{natAbs}
 use Rattle.exact.specs.Fraction.{ratio, whole, _⊟_, _⊠_}
 use Rattle.exact.proofs.Close.{Close, close-whole, close-times, close-difference, close-share}
-use Rattle.decay.specs.Decay.{share, pick, plantToDpm, plantToRpm, manureToDpm, manureToHum, manureToRpm}
+use Rattle.decay.specs.Decay.{share, plantToDpm, plantToRpm, manureToDpm, manureToHum, manureToRpm}
 use Rattle.state.specs.declared.Soil.{Soil}
 use Rattle.state.specs.declared.Entries.{Entries}
 use Rattle.recurrence.specs.Recurrence.{plantPart, manurePart}
@@ -18,7 +18,7 @@ close-part n c w pos = close-share (share n c w) c w pos (close-whole 1 n) (shar
 
 close-kinds :
     (n : ℕ) (one two : Bool)
-    → Close 50935 (pick one (share n 36 61) (pick two (share n 67 167) (share n 1 5)))
+    → Close 50935 (cond one (share n 36 61) (cond two (share n 67 167) (share n 1 5)))
     (whole n ⊠ cond one (ratio 36 61 (lit< tt)) (cond two (ratio 67 167 (lit< tt)) (ratio 1 5 (lit< tt)))) 50935
 close-kinds n true two = close-times 835 (close-part n 36 61 (lit< tt))
 close-kinds n false true = close-times 305 (close-part n 67 167 (lit< tt))

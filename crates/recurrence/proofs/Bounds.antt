@@ -9,14 +9,14 @@ use Rattle.state.specs.declared.State.{State}
 use Rattle.state.specs.declared.Entries.{Entries}
 use Rattle.state.specs.declared.Check.the-variants.{Pass}
 use Rattle.state.specs.Refusal.{monthCheck}
-use Rattle.month.specs.Month.{stateRate}
+use Rattle.month.specs.Month.{nextRate}
 use Rattle.month.proofs.Steps.{clay-number-most}
 use Rattle.month.proofs.Laws.{accepted, survivals-range}
 
 pub record Bounds (t : State) (e : Entries) : Type 0 where
   pub carbon : total (t .soil .pools) ≤ 1000000000
   pub clay : clayNumber (t .soil .clay) ≤ 250000
-  pub survival : Survivals (survivals (stateRate t e))
+  pub survival : Survivals (survivals (nextRate t e))
 
 pub accepted-bounds : (t : State) (number : ℕ) (e : Entries) → monthCheck t number e ≡ Pass → Bounds t e
 accepted-bounds t number e h =

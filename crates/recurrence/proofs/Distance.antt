@@ -17,7 +17,7 @@ use Rattle.state.specs.declared.Check.{Check}
 use Rattle.state.specs.declared.Check.the-variants.{Pass, Refuse}
 use Rattle.state.specs.Refusal.{monthCheck}
 use Rattle.state.specs.NewState.{newState}
-use Rattle.month.specs.Month.{deficitAfter, rateAfter, poolsAfter, withPools, movedTo, stateDeficit, stateRate, outcomeOf, monthCall}
+use Rattle.month.specs.Month.{deficitAfter, rateAfter, poolsAfter, withPools, movedTo, nextDeficit, nextRate, outcomeOf, monthCall}
 use Rattle.recurrence.specs.Calls.{Call, stateAfter, isDone, accepts, runCalls, acceptedCalls}
 use Rattle.recurrence.specs.Recurrence.{Fed, feed, Exact, exactStart, Fractions, AllowedAt, exactFormed, exactMonth, exactRate, Leads, none, refused, month}
 use Rattle.recurrence.specs.Demand.{totalDistance}
@@ -63,12 +63,12 @@ module _ {s : Soil} {x y : Exact} where
 
 -- The deficit, the rate number and the month of the recurrence are those of the soil with any pools.
 module _ (s : Soil) (t : State) (x : Exact) (e : Entries) (soil : t .soil ≡ withPools s (t .soil .pools)) where
-  same-deficit : t .deficit .0 ≡ x .deficit → stateDeficit t e ≡ deficitAfter s (x .deficit) e
-  unfolding stateDeficit deficitAfter
+  same-deficit : t .deficit .0 ≡ x .deficit → nextDeficit t e ≡ deficitAfter s (x .deficit) e
+  unfolding nextDeficit deficitAfter
   same-deficit d = ap₂ (λ (u : Soil) (m : ℕ). deficitAfter u m e) soil d
 
-  pub same-rate : t .deficit .0 ≡ x .deficit → stateRate t e ≡ exactRate s e x
-  unfolding stateRate stateDeficit deficitAfter rateAfter
+  pub same-rate : t .deficit .0 ≡ x .deficit → nextRate t e ≡ exactRate s e x
+  unfolding nextRate nextDeficit deficitAfter rateAfter
   same-rate d = ap₂ (λ (u : Soil) (m : ℕ). rateAfter u (deficitAfter u m e) e) soil d
 
   same-month : (q : Fractions) → exactMonth (t .soil) e q x ≡ exactMonth s e q x
@@ -78,18 +78,18 @@ module _ (s : Soil) (t : State) (x : Exact) (e : Entries) (soil : t .soil ≡ wi
 -- An accepted month is followed by the recurrence's month.
 module _ (s : Soil) (t : State) (x : Exact) (n : ℕ) (e : Entries) (q : Fractions) (bounds : Bounds t e)
     (allowed : AllowedAt q (exactRate s e x)) (h : Follows s t x n) where
-  month-near : totalDistance (movedTo t e (stateDeficit t e) (stateRate t e)) (exactMonth s e q x) ≼ whole (n + 20)
+  month-near : totalDistance (movedTo t e (nextDeficit t e) (nextRate t e)) (exactMonth s e q x) ≼ whole (n + 20)
   month-near =
-      let here : AllowedAt q (stateRate t e) = rw (same-rate s t x e (h .soil) (h .deficit)) allowed in
+      let here : AllowedAt q (nextRate t e) = rw (same-rate s t x e (h .soil) (h .deficit)) allowed in
       let step =
-      month-distance t e (stateDeficit t e) (stateRate t e) q x (bounds .carbon) (bounds .clay) (bounds .survival) here in
+      month-distance t e (nextDeficit t e) (nextRate t e) q x (bounds .carbon) (bounds .clay) (bounds .survival) here in
       ≼-trans (rw (same-month s t x e (h .soil) q) at step) (sum-most 19 (n + 20) (omega arith) (h .near))
 
-  pub month-follows : Follows s (movedTo t e (stateDeficit t e) (stateRate t e)) (exactMonth s e q x) (n + 20)
+  pub month-follows : Follows s (movedTo t e (nextDeficit t e) (nextRate t e)) (exactMonth s e q x) (n + 20)
   unfolding movedTo exactMonth
   month-follows =
       record {
-        soil = ap (λ (u : Soil). withPools u (poolsAfter (t .soil) (stateRate t e) e)) (h .soil);
+        soil = ap (λ (u : Soil). withPools u (poolsAfter (t .soil) (nextRate t e) e)) (h .soil);
         deficit = same-deficit s t x e (h .soil) (h .deficit);
         near = month-near;
       }

@@ -37,7 +37,7 @@ unfoldable pub acceptedCalls : State → List Call → ℕ
 acceptedCalls s [] = 0
 acceptedCalls s (c ∷ calls) = cond (accepts s c) 1 0 + acceptedCalls (stateAfter s c) calls
 
--- All plant and manure carbon of the accepted calls.
+-- All plant and manure carbon of the accepted calls, of which no entry is below 0 (16).
 unfoldable pub addedCarbon : State → List Call → ℕ
 addedCarbon s [] = 0
 addedCarbon s (c ∷ calls) =

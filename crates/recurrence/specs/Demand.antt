@@ -21,7 +21,8 @@ totalDistance s x =
     ⊞ distance (whole (gramsAt (s .soil .pools) 3)) (x .hum)
 
 -- (a) Active pools plus CO2 to date equal, to the gram, the starting active pools plus all carbon added by the accepted calls.
--- (b) The four distances add up to at most 20 grams times the accepted calls, whatever the recurrence's survival fractions.
+-- (b) The four distances add up to at most 20 grams times the accepted calls, whatever allowed survival
+-- fractions the recurrence uses in each month and for each pool.
 pub record Demand3For (s : Soil) (calls : List Call) : Type 0 where
   pub balance :
       total (runCalls (newState s) calls .soil .pools) + runCalls (newState s) calls .co2 .0

@@ -1,5 +1,5 @@
 -- What the refusals leave, in plain numbers: a soil, a state and a month's entries of which no refusal applies.
--- proofs/Laws.antt shows that each is the same as its check finding nothing.
+-- proofs/Checks.antt shows that each is the same as its check finding nothing.
 use Prim.Native.Nat.{_+_, _*_, _≤_, _<_}
 use lib.IntN.{ℤ, pos, negsuc, natAbs}
 use lib.Signed.{_≤ℤ_}

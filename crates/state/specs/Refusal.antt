@@ -42,6 +42,11 @@ refusalNumber Cover = 15
 refusalNumber Additions = 16
 refusalNumber Ceiling = 17
 
+-- The number of what a check finds, 0 where it finds nothing.
+abbrev pub checkNumber : Check → ℕ
+checkNumber Pass = 0
+checkNumber (Refuse refusal) = refusalNumber refusal
+
 -- The carbon that the active pools together, or IOM, may have, and the months that a state may have done.
 abbrev pub carbonCeiling : ℕ
 carbonCeiling = 1000000000
@@ -94,7 +99,7 @@ waterCheck s e =
 unfoldable pub temperatureCheck : State → Entries → Check
 temperatureCheck s e = given (outside (negsuc 399) (pos 500) (e .temperature)) Temperature (waterCheck s e)
 
--- 12: 120,000 months are done. From here on the checks are those of a list's month too.
+-- 12: 120,000 months are done. From here on, 12 to 17, the checks are those of a list's month too.
 unfoldable pub entriesCheck : State → Entries → Check
 entriesCheck s e = given (leb monthLimit (s .months)) MonthLimit (temperatureCheck s e)
 

@@ -150,7 +150,7 @@ moistureFactor-threshold m d hm h =
 
 -- ---- known figures of document 01, and a deficit at which the rounding of B meets an exact half
 
-pub record KnownFigures : Type 0 where
+pub record WaterFigures : Type 0 where
   -- Clay 234, depth 23: a deficit of 27.50 mm gives B 7585, and M gives 2000.
   pub at-27-50-mm : moistureFactor (maxDeficit 234 23) 56925000 ≡ 7585
   pub at-largest : moistureFactor (maxDeficit 234 23) (maxDeficit 234 23) ≡ 2000
@@ -158,6 +158,6 @@ pub record KnownFigures : Type 0 where
   pub half-is-exact : 2 * (8000000 * (maxDeficit 100 23 - 59046750)) ≡ 3125 * (556 * maxDeficit 100 23)
   pub half-is-up : moistureFactor (maxDeficit 100 23) 59046750 ≡ 3563
 
-pub known-figures : KnownFigures
+pub known-figures : WaterFigures
 unfolding moistureFactor maxDeficit halvesUp
 known-figures = record { at-27-50-mm = refl; at-largest = refl; half-is-exact = refl; half-is-up = refl }

@@ -4,7 +4,7 @@ use mathlib.Core.Path.{_≡_, _∙_}
 use native.Mathlib.Omega.{arith}
 use borrow.Author.Needs.{needs}
 use lib.IntN.{natAbs}
-use Rattle.month.specs.Month.{deficitAfter, stateDeficit}
+use Rattle.month.specs.Month.{deficitAfter, nextDeficit}
 use Rattle.state.proofs.Checks.{natural-most}
 use Rattle.state.proofs.Signed.{natural-read}
 use Rattle.month.proofs.Steps.{deficit-range}
@@ -50,7 +50,7 @@ new-deficit-requires c κs =
     )
 
 returns : tie.Need-returns
-unfolding stateDeficit deficitAfter
+unfolding nextDeficit deficitAfter
 returns c =
     let b = c .before .before .before .before .before in
     c .new-deficit .ensures

@@ -1,10 +1,15 @@
 -- `month::month` meets its contract: a month that the checks let pass is run, and a refusal is handed back with the state.
 -- Assumes nothing.
-use mathlib.Core.Path.{_≡_, sym, _∙_}
+use mathlib.Core.Path.{_≡_, sym, _∙_, ap}
+use Prim.Native.Nat.{ℕ}
 use borrow.Author.Needs.{needs}
 use Rattle.state.specs.declared.Check.the-variants.{Pass}
-use Rattle.state.specs.Refusal.{monthCheck}
-use Rattle.month.specs.Month.{outcomeOf, monthCall}
+use Rattle.state.specs.declared.State.{State}
+use Rattle.state.specs.declared.Entries.{Entries}
+use Rattle.state.specs.Refusal.{checkNumber, monthCheck}
+use Rattle.month.specs.declared.Outcome.{Outcome}
+use Rattle.month.specs.Month.{answerNumber, monthCall}
+use Rattle.month.proofs.Laws.{accepted-runs, refusal-keeps, call-number}
 use Rattle.state.proofs.Checks.{month-parts}
 use Rattle.month.proofs.month.Statement.{statement}
 use Rattle.month.proofs.month.Tie as tie
@@ -27,13 +32,24 @@ step-requires c κs =
 enum-known-refusal : tie.Need-enum-known-refusal
 enum-known-refusal c = search needs
 
+-- an outcome that is the definition's has its number too
+numbered :
+    (s : State) (number : ℕ) (e : Entries) {r : Outcome} → r ≡ monthCall s number e
+    → (r ≡ monthCall s number e) × (answerNumber (r .answer) ≡ checkNumber (monthCheck s number e))
+numbered s number e is = (is, ap (λ (o : Outcome). answerNumber (o .answer)) is ∙ call-number s number e)
+
 returns : tie.Need-returns
-unfolding monthCall
-returns c = rw (passes (c .before)) (c .step .ensures)
+returns c =
+    let a = c .before .before .before .before .args in
+    numbered (a .s) (a .number) (a .e) (c .step .ensures ∙ sym (accepted-runs (a .s) (a .number) (a .e) (passes (c .before))))
 
 returns-2 : tie.Need-returns-2
-unfolding monthCall outcomeOf
-returns-2 c = rw (sym (c .before .before .before .check-month .ensures) ∙ c .before .refusal .given .1)
+returns-2 c =
+    let a = c .before .before .before .before .args in
+    numbered (a .s) (a .number) (a .e)
+    (sym
+    (refusal-keeps (a .s) (a .number) (a .e) _
+    (sym (c .before .before .before .check-month .ensures) ∙ c .before .refusal .given .1)))
 
 pub month-spec : {M : Type 1} → statement M
 month-spec =

@@ -19,7 +19,7 @@ use Rattle.state.specs.declared.Check.the-variants.{Pass}
 use Rattle.month.specs.declared.Answer.the-variants.{Done}
 use Rattle.month.specs.declared.Outcome.{Outcome}
 use Rattle.state.specs.Accepted.{Sound, Ready}
-use Rattle.month.specs.Month.{rateAfter, poolsAfter, gasOf, withPools, movedTo, rowOf, stateDeficit, stateRate, outcomeOf}
+use Rattle.month.specs.Month.{rateAfter, poolsAfter, gasOf, withPools, movedTo, rowOf, nextDeficit, nextRate, outcomeOf}
 use Rattle.state.proofs.Checks.{sound-state, ready}
 use Rattle.month.proofs.Steps.{deficit-most, state-rate-most, decay-total}
 use Rattle.month.proofs.step.Statement.{statement}
@@ -45,7 +45,7 @@ module _ (s : State) (e : Entries) (d : Parts) (gas : Grams) (pools : List Grams
       }
 
   built-is :
-      d .0 ≡ stateDeficit s e → gas .0 ≡ gasOf (s .soil) (stateRate s e) → pools ≡ poolsAfter (s .soil) (stateRate s e) e
+      d .0 ≡ nextDeficit s e → gas .0 ≡ gasOf (s .soil) (nextRate s e) → pools ≡ poolsAfter (s .soil) (nextRate s e) e
       → built ≡ outcomeOf Pass s e
   unfolding built outcomeOf rowOf movedTo
   built-is p q r = λ i. record {
@@ -87,8 +87,8 @@ rate-after-requires c κs =
     (sound b, entries b, omega (arith, c .deficit-after .ensures, deficit-most (b .args .s) (b .args .e) (sound b)))
 
 -- the rate number is that of the definition, ..
-rate-is : (c : tie.After-rate-after) → let a = start (c .before .before) .args in c .rate-after .result ≡ stateRate (a .s) (a .e)
-unfolding stateRate
+rate-is : (c : tie.After-rate-after) → let a = start (c .before .before) .args in c .rate-after .result ≡ nextRate (a .s) (a .e)
+unfolding nextRate
 rate-is c =
     let a = start (c .before .before) .args in
     c .rate-after .ensures ∙ ap (λ (d : ℕ). rateAfter (a .s .soil) d (a .e)) (c .before .deficit-after .ensures)
@@ -101,7 +101,7 @@ after-decay-requires c κs =
 -- .. and so are the month's CO2 ..
 gas-is :
     (c : tie.After-after-decay)
-    → let a = start (c .before .before .before) .args in c .after-decay .result .co2 .0 ≡ gasOf (a .s .soil) (stateRate (a .s) (a .e))
+    → let a = start (c .before .before .before) .args in c .after-decay .result .co2 .0 ≡ gasOf (a .s .soil) (nextRate (a .s) (a .e))
 gas-is c =
     let a = start (c .before .before .before) .args in
     c .after-decay .ensures .1 ∙ ap (gasOf (a .s .soil)) (rate-is (c .before))
@@ -111,7 +111,7 @@ left-is :
     (c : tie.After-after-decay)
     → let a = start (c .before .before .before) .args in
     c .after-decay .result .pools
-    ≡ decayed (a .s .soil .pools) (survivals (stateRate (a .s) (a .e))) (clayNumber (a .s .soil .clay))
+    ≡ decayed (a .s .soil .pools) (survivals (nextRate (a .s) (a .e))) (clayNumber (a .s .soil .clay))
 left-is c =
     let a = start (c .before .before .before) .args in
     c .after-decay .ensures .0
@@ -134,7 +134,7 @@ after-additions-requires c κs =
 pools-are :
     (c : tie.After-after-additions)
     → let a = start (c .before .before .before .before .before .before) .args in
-    c .after-additions .result ≡ poolsAfter (a .s .soil) (stateRate (a .s) (a .e)) (a .e)
+    c .after-additions .result ≡ poolsAfter (a .s .soil) (nextRate (a .s) (a .e)) (a .e)
 unfolding poolsAfter
 pools-are c =
     let a = start (c .before .before .before .before .before .before) .args in
