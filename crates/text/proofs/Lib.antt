@@ -1,0 +1,6 @@
+pub mod Digits
+pub mod Writing
+pub mod Reading
+pub mod Minus
+pub mod Laws
+pub mod Examples
