@@ -1,0 +1,65 @@
+-- A list of months beside demand 3's list of single month calls.
+use mathlib.Core.Path.{_≡_}
+use mathlib.Core.List.{List, [], _∷_}
+use Prim.Native.Nat.{ℕ, zero, suc, _+_, _-_, _*_, _<_}
+use lib.IntN.{ℤ}
+use Rattle.exact.specs.Fraction.{_≼_, whole}
+use Rattle.decay.specs.Decay.{total}
+use Rattle.state.specs.declared.Soil.{Soil}
+use Rattle.state.specs.declared.State.{State}
+use Rattle.state.specs.declared.Refusal.{Refusal}
+use Rattle.state.specs.NewState.{newState}
+use Rattle.month.specs.declared.Answer.the-variants.{Refused}
+use Rattle.month.specs.Month.{monthCall}
+use Rattle.recurrence.specs.Calls.{Call, runCalls, acceptedCalls, addedCarbon}
+use Rattle.recurrence.specs.Recurrence.{Exact, Leads, exactStart, feed}
+use Rattle.recurrence.specs.Demand.{totalDistance}
+use Rattle.runs.specs.declared.ListRefusal.{ListRefusal}
+use Rattle.runs.specs.declared.ListRefusal.the-variants.{Of}
+use Rattle.runs.specs.declared.ListAnswer.{ListAnswer}
+use Rattle.runs.specs.declared.ListAnswer.the-variants as answers
+use Rattle.runs.specs.Run.{entriesAt}
+
+-- So many months of a list from the one at place j, as single month calls: `done` months being done, their numbers are done + 1,
+-- done + 2 and so on.
+unfoldable pub listCalls : ℕ → List ℤ → List ℤ → ℕ → ℕ → List Call
+listCalls zero weather land j done = []
+listCalls (suc left) weather land j done =
+    record { number = done + 1; entries = entriesAt weather land j } ∷ listCalls left weather land (suc j) (done + 1)
+
+-- The state after so many months from the one at place j is that of their calls, of which every one is accepted.
+pub record Ran (weather land : List ℤ) (j : ℕ) (s : State) (months : ℕ) (after : State) : Type 0 where
+  pub state : after ≡ runCalls s (listCalls months weather land j (s .months))
+  pub accepted : acceptedCalls s (listCalls months weather land j (s .months)) ≡ months
+
+-- A list of so many months from the one at place j is refused at a place: the months before it ran, and the call there is refused.
+pub record Stopped
+    (weather land : List ℤ)
+    (j : ℕ)
+    (s : State)
+    (months : ℕ)
+    (refusal : ListRefusal)
+    (place : ℕ)
+    (after : State)
+    : Type 0 where
+  pub ran : ℕ
+  pub fewer : ran < months
+  pub at : place ≡ j + ran + 1
+  pub before : Ran weather land j s ran after
+  pub reason : Refusal
+  pub by : refusal ≡ Of reason
+  pub call : monthCall after (after .months + 1) (entriesAt weather land (j + ran)) .answer ≡ Refused reason
+
+-- The rows that a list of so many months has written: all, or those before the month that was refused.
+abbrev pub rowsWritten : ListAnswer → ℕ → ℕ
+rowsWritten answers.Finished months = months
+rowsWritten (answers.Refused refusal place) months = place - 1
+
+-- Demand 3 of a list from the new state of a soil, for so many months that ran.
+pub record ListDemand3 (s : Soil) (weather land : List ℤ) (months : ℕ) (after : State) : Type 0 where
+  pub balance :
+      total (after .soil .pools) + after .co2 .0
+      ≡ total (s .pools) + addedCarbon (newState s) (listCalls months weather land 0 0)
+  pub distances :
+      (x : Exact) → Leads s (feed (newState s) (listCalls months weather land 0 0)) (exactStart s) x
+      → totalDistance after x ≼ whole (20 * months)

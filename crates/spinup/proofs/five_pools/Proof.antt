@@ -1,0 +1,24 @@
+-- `spinup::five_pools` meets its contract: a sound state has few enough grams that the sums fit.
+-- Assumes nothing.
+use native.Mathlib.Omega.{arith}
+use borrow.Author.Needs.{needs}
+use Rattle.spinup.proofs.Laws.{most}
+use Rattle.spinup.proofs.five_pools.Statement.{statement}
+use Rattle.spinup.proofs.five_pools.Tie as tie
+
+total-requires : tie.Need-total-requires
+total-requires c κs =
+    let start = c .before .before in
+    omega (arith, most (start .args .s) (start .pre) .active)
+
+add-result : tie.Need-add-result
+add-result c =
+    let start = c .before .before .before .before .before in
+    let grams = most (start .args .s) (start .pre) in
+    omega (arith, c .before .before .total .ensures, grams .active, grams .inert)
+
+returns : tie.Need-returns
+returns c = search needs
+
+pub five-pools-spec : {M : Type 1} → statement M
+five-pools-spec = tie.close (tie.spec total-requires add-result returns)
