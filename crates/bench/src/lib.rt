@@ -9,7 +9,12 @@ fn hoosfield() -> State {
         clay: 234,
         depth: 23,
         kind: 1,
-        pools: [Grams(153300), Grams(4485200), Grams(667100), Grams(25857600)],
+        pools: [
+            Grams(153300),
+            Grams(4485200),
+            Grams(667100),
+            Grams(25857600),
+        ],
         iom: Grams(2700000),
     };
     State::new(soil)

@@ -74,10 +74,11 @@ pub record Left : Type 0 where
   pub outcome : ListOutcome
   pub output : List ℕ
 
--- Refused at a place, with a state and the output as they are.
+-- Refused at a place, with a state.
 abbrev pub listRefused : ListRefusal → ℕ → State → ListOutcome
 listRefused refusal place s = record { answer = answers.Refused refusal place; state = s }
 
+-- The same, with the output as it is.
 abbrev pub refusedAt : ListRefusal → ℕ → State → List ℕ → Left
 refusedAt refusal place s out = record { outcome = listRefused refusal place s; output = out }
 

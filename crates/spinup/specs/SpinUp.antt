@@ -57,7 +57,7 @@ afterYear answers.Finished end s before starting later = yearEnd (settles s end)
 afterYear (answers.Refused refusal place) end s before starting later =
     spinRefused (yearRefusal refusal) (12 * before + place) starting
 
--- A year's twelve months, of which no row is kept.
+-- A year's twelve months. No row is kept: nothing is written to an output of no numbers.
 unfoldable pub yearOutcome : List ℤ → List ℤ → State → ListOutcome
 yearOutcome weather land s = months 12 weather land 0 s [] .outcome
 
