@@ -1,4 +1,5 @@
--- Laws of a list of months.
+-- Laws of a list of months that its functions rest on: what a month of it is, what its first month leaves to the others, and what the
+-- checks before the months find.
 -- Assumes nothing.
 use mathlib.Core.Path.{_≡_, refl, _∙_, ap}
 use mathlib.Core.Bool.{Bool, true, false, not, _||_}

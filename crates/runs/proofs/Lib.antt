@@ -1,3 +1,4 @@
 pub mod Laws
 pub mod Months
 pub mod ListCalls
+pub mod Rows

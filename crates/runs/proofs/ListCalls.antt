@@ -42,7 +42,7 @@ unfolding outcomeOf movedTo
 counted s e Pass row h = refl
 counted s e (Refuse refusal) row h = absurd (let z : _≡_ {A = ℕ} 0 1 = cc in omega arith)
 
-done-months : (s : State) (e : Entries) (row : Row) → listMonth s e .answer ≡ Done row → listMonth s e .state .months ≡ s .months + 1
+pub done-months : (s : State) (e : Entries) (row : Row) → listMonth s e .answer ≡ Done row → listMonth s e .state .months ≡ s .months + 1
 unfolding listMonth
 done-months s e row h = counted s e (entriesCheck s e) row h
 
@@ -62,6 +62,9 @@ refused-same s e refusal h = unchanged s e (entriesCheck s e) refusal h
 -- What an answer adds to the calls that are accepted.
 abbrev once : Answer → ℕ
 once answer = cond (isDone answer) 1 0
+
+pub shift : (j k : ℕ) → j + suc k ≡ suc j + k
+shift j k = omega arith
 
 module _ (weather land : List ℤ) where
   -- None.
@@ -85,9 +88,6 @@ module _ (weather land : List ℤ) where
         state = ran .state ∙ (λ i. runCalls (is i .state) (listCalls left weather land (suc j) (number i)));
         accepted = (λ i. one i + later i) ∙ one-add left;
       }
-
-  shift : (j k : ℕ) → j + suc k ≡ suc j + k
-  shift j k = omega arith
 
   -- Months that are finished all ran, ..
   pub all-ran : {left j : ℕ} {s : State} {out : List ℕ} {end : Left} → Course weather land left j s out end → stateCheck s ≡ Pass
@@ -134,22 +134,22 @@ module _ (s : State) (weather land : List ℤ) (out : List ℕ) where
   the-months = months (rowCount land) weather land 0 s out
 
   -- A list that is finished has the state of a call for each of its land rows, all accepted.
-  to-the-end : {end : Left} → Begun s out the-months end → end .outcome .answer ≡ answers.Finished
+  to-the-end : {end : Left} → Begun s land out the-months end → end .outcome .answer ≡ answers.Finished
       → Ran weather land 0 s (rowCount land) (end .outcome .state)
   to-the-end (courses.refused refusal) h = absurd (let z : _≡_ {A = ℕ} 0 1 = cc in omega arith)
-  to-the-end (courses.started sound) h = all-ran weather land (course weather land (rowCount land) 0 s out) sound h
+  to-the-end (courses.started sound room) h = all-ran weather land (course weather land (rowCount land) 0 s out) sound h
 
   pub finished-list : run s weather land out .outcome .answer ≡ answers.Finished
       → Ran weather land 0 s (rowCount land) (run s weather land out .outcome .state)
   finished-list h = to-the-end (begun s weather land out) h
 
   -- A list that is refused at a month has the state of the calls before it, and the call there is refused.
-  to-a-month : {end : Left} (refusal : ListRefusal) (month : ℕ) → Begun s out the-months end
+  to-a-month : {end : Left} (refusal : ListRefusal) (month : ℕ) → Begun s land out the-months end
       → end .outcome .answer ≡ answers.Refused refusal (suc month)
       → Stopped weather land 0 s (rowCount land) refusal (suc month) (end .outcome .state)
   to-a-month refusal month (courses.refused reason) h =
       absurd (let z : _≡_ {A = ℕ} 0 (suc month) = cc in omega arith)
-  to-a-month refusal month (courses.started sound) h = stopped weather land (course weather land (rowCount land) 0 s out) sound h
+  to-a-month refusal month (courses.started sound room) h = stopped weather land (course weather land (rowCount land) 0 s out) sound h
 
   pub refused-list : (refusal : ListRefusal) (month : ℕ) → run s weather land out .outcome .answer ≡ answers.Refused refusal (suc month)
       → Stopped weather land 0 s (rowCount land) refusal (suc month) (run s weather land out .outcome .state)

@@ -7,6 +7,7 @@ use mathlib.Core.List.{List}
 use Prim.Native.Nat.{ℕ, zero, suc, _+_, _-_, _*_, _≤_, _<_}
 use native.Mathlib.Nat.{zero-add}
 use native.Mathlib.Omega.{arith}
+use lib.Dec.{lit<}
 use lib.IntN.{ℤ}
 use lib.ListN.{length, getD, set}
 use lib.Seq.{getD-set-other}
@@ -104,23 +105,24 @@ same-outcome (suc left) weather land j s out out' =
 
 -- ---- the output
 
--- A row touches nothing past it.
-module _ (i : ℕ) where
-  before : (k : ℕ) → k < i → (out : List ℕ) (x : ℕ) → getD (set out k x) i 0 ≡ getD out i 0
-  before k h out x = getD-set-other out k i x 0 (λ e. omega arith)
+-- A store elsewhere changes nothing at i, and so a row changes nothing before it or past it.
+pub elsewhere : (i k : ℕ) → (i ≡ k → ⊥) → (out : List ℕ) (x : ℕ) → getD (set out k x) i 0 ≡ getD out i 0
+elsewhere i k other out x = getD-set-other out k i x 0 other
 
-  past-row : (out : List ℕ) (j : ℕ) (row : Row) → 7 * j + 7 ≤ i → getD (written out j row) i 0 ≡ getD out i 0
-  unfolding written
-  past-row out j row h =
-      rw (
-        before (7 * j + 6) (omega arith),
-        before (7 * j + 5) (omega arith),
-        before (7 * j + 4) (omega arith),
-        before (7 * j + 3) (omega arith),
-        before (7 * j + 2) (omega arith),
-        before (7 * j + 1) (omega arith),
-        before (7 * j) (omega arith),
-      )
+pub off-row :
+    (i : ℕ) (out : List ℕ) (j : ℕ) (row : Row) → ((c : ℕ) → c < 7 → i ≡ 7 * j + c → ⊥)
+    → getD (written out j row) i 0 ≡ getD out i 0
+unfolding written
+off-row i out j row off =
+    rw (
+      elsewhere i (7 * j + 6) (off 6 (lit< tt)),
+      elsewhere i (7 * j + 5) (off 5 (lit< tt)),
+      elsewhere i (7 * j + 4) (off 4 (lit< tt)),
+      elsewhere i (7 * j + 3) (off 3 (lit< tt)),
+      elsewhere i (7 * j + 2) (off 2 (lit< tt)),
+      elsewhere i (7 * j + 1) (off 1 (lit< tt)),
+      elsewhere i (7 * j) (λ e. off 0 (lit< tt) (omega arith)),
+    )
 
 -- No row of a list lies before its first month's.
 rows-from :
@@ -139,10 +141,19 @@ untouched finished all h i past = refl
 untouched (refused reason e) all h i past = refl
 untouched {j} {out} (month row e later) all h i past =
     untouched later all (omega arith) i past
-    ∙ past-row i out j row (omega (arith, rows-from later all (omega arith)))
+    ∙ off-row i out j row (λ c below is. omega (arith, rows-from later all (omega arith)))
+
+-- Nothing before the first month's row changes either.
+pub kept-before :
+    {weather land : List ℤ} {left j : ℕ} {s : State} {out : List ℕ} {end : Left} → Course weather land left j s out end
+    → (i : ℕ) → i < 7 * j → getD (end .output) i 0 ≡ getD out i 0
+kept-before finished i h = refl
+kept-before (refused reason e) i h = refl
+kept-before {j} {out} (month row e later) i h =
+    kept-before later i (omega arith) ∙ off-row i out j row (λ c below is. omega arith)
 
 -- Its length stays too.
-length-kept :
+pub length-kept :
     {weather land : List ℤ} {left j : ℕ} {s : State} {out : List ℕ} {end : Left} → Course weather land left j s out end
     → length (end .output) ≡ length out
 length-kept finished = refl
@@ -151,29 +162,29 @@ length-kept {j} {out} (month row e later) = length-kept later ∙ written-length
 
 -- ---- a whole list
 
--- It is refused before its months, with the state and the output that it was given, or its state passes 4 to 7 and 10 and it
--- leaves what its months leave.
-pub data Begun (s : State) (out : List ℕ) (later : Left) : Left → Type 0 where
-  refused : (refusal : ListRefusal) → Begun s out later (refusedAt refusal 0 s out)
-  started : stateCheck s ≡ Pass → Begun s out later later
+-- It is refused before its months, with the state and the output that it was given, or 4 to 7, 8 and 10 pass and it leaves what its
+-- months leave.
+pub data Begun (s : State) (land : List ℤ) (out : List ℕ) (later : Left) : Left → Type 0 where
+  refused : (refusal : ListRefusal) → Begun s land out later (refusedAt refusal 0 s out)
+  started : stateCheck s ≡ Pass → noRoom land out ≡ false → Begun s land out later later
 
-module _ {s : State} {out : List ℕ} {later end : Left} where
-  given-begun : (test : Bool) (refusal : ListRefusal) → (test ≡ false → Begun s out later end)
-      → Begun s out later (listGiven test refusal s out end)
+module _ {s : State} {land : List ℤ} {out : List ℕ} {later end : Left} where
+  given-begun : (test : Bool) (refusal : ListRefusal) → (test ≡ false → Begun s land out later end)
+      → Begun s land out later (listGiven test refusal s out end)
   given-begun true refusal begun = refused refusal
   given-begun false refusal begun = begun refl
 
-  checked-begun : (check : Check) → (check ≡ Pass → Begun s out later end) → Begun s out later (listChecked check s out end)
+  checked-begun : (check : Check) → (check ≡ Pass → Begun s land out later end) → Begun s land out later (listChecked check s out end)
   checked-begun Pass begun = begun refl
   checked-begun (Refuse refusal) begun = refused (Of refusal)
 
 module _ (s : State) (weather land : List ℤ) (out : List ℕ) where
-  pub begun : Begun s out (months (rowCount land) weather land 0 s out) (run s weather land out)
+  pub begun : Begun s land out (months (rowCount land) weather land 0 s out) (run s weather land out)
   unfolding run afterSoil stateCheck
   begun =
       given-begun (badRows weather || badRows land) Rows (λ rows. checked-begun (soilCheck (s .soil)) (λ soil.
       given-begun (noRoom land out) Room (λ room. given-begun (outOfBounds s) (Of StateBounds) (λ bounds.
-      started (passes-followed soil (passes-given StateBounds bounds refl))))))
+      started (passes-followed soil (passes-given StateBounds bounds refl)) room))))
 
   abbrev the-months : Left
   the-months = months (rowCount land) weather land 0 s out
@@ -182,30 +193,30 @@ module _ (s : State) (weather land : List ℤ) (out : List ℕ) where
   whole = course weather land (rowCount land) 0 s out
 
   -- A refusal with place 0 leaves the state and the output as they were.
-  nothing-ran : {end : Left} (refusal : ListRefusal) → Begun s out the-months end
+  nothing-ran : {end : Left} (refusal : ListRefusal) → Begun s land out the-months end
       → end .outcome .answer ≡ answers.Refused refusal 0 → end ≡ refusedAt refusal 0 s out
   nothing-ran refusal (refused reason) h =
       let same : reason ≡ refusal = cc in ap (λ (r : ListRefusal). refusedAt r 0 s out) same
-  nothing-ran refusal (started sound) h = absurd (let range = place-in whole h in omega (arith, range .0))
+  nothing-ran refusal (started sound room) h = absurd (let range = place-in whole h in omega (arith, range .0))
 
   pub outside-months : (refusal : ListRefusal) → run s weather land out .outcome .answer ≡ answers.Refused refusal 0
       → run s weather land out ≡ refusedAt refusal 0 s out
   outside-months refusal h = nothing-ran refusal begun h
 
   -- Output past the last row written stays as it was, on every path, ..
-  past : {end : Left} → Begun s out the-months end → (i : ℕ) → 7 * rowsWritten (end .outcome .answer) (rowCount land) ≤ i
+  past : {end : Left} → Begun s land out the-months end → (i : ℕ) → 7 * rowsWritten (end .outcome .answer) (rowCount land) ≤ i
       → getD (end .output) i 0 ≡ getD out i 0
   past (refused refusal) i h = refl
-  past (started sound) i h = untouched whole (rowCount land) (sym (zero-add (rowCount land))) i h
+  past (started sound room) i h = untouched whole (rowCount land) (sym (zero-add (rowCount land))) i h
 
   pub output-past : (i : ℕ) → 7 * rowsWritten (run s weather land out .outcome .answer) (rowCount land) ≤ i
       → getD (run s weather land out .output) i 0 ≡ getD out i 0
   output-past i h = past begun i h
 
   -- .. and so does its length.
-  same-length : {end : Left} → Begun s out the-months end → length (end .output) ≡ length out
+  same-length : {end : Left} → Begun s land out the-months end → length (end .output) ≡ length out
   same-length (refused refusal) = refl
-  same-length (started sound) = length-kept whole
+  same-length (started sound room) = length-kept whole
 
   pub output-length : length (run s weather land out .output) ≡ length out
   output-length = same-length begun

@@ -3,13 +3,15 @@ use mathlib.Core.Path.{_≡_}
 use mathlib.Core.List.{List, [], _∷_}
 use Prim.Native.Nat.{ℕ, zero, suc, _+_, _-_, _*_, _<_}
 use lib.IntN.{ℤ}
+use lib.ListN.{getD}
 use Rattle.exact.specs.Fraction.{_≼_, whole}
 use Rattle.decay.specs.Decay.{total}
 use Rattle.state.specs.declared.Soil.{Soil}
 use Rattle.state.specs.declared.State.{State}
 use Rattle.state.specs.declared.Refusal.{Refusal}
 use Rattle.state.specs.NewState.{newState}
-use Rattle.month.specs.declared.Answer.the-variants.{Refused}
+use Rattle.month.specs.declared.Row.{Row}
+use Rattle.month.specs.declared.Answer.the-variants.{Done, Refused}
 use Rattle.month.specs.Month.{monthCall}
 use Rattle.recurrence.specs.Calls.{Call, runCalls, acceptedCalls, addedCarbon}
 use Rattle.recurrence.specs.Recurrence.{Exact, Leads, exactStart, feed}
@@ -54,6 +56,28 @@ pub record Stopped
 abbrev pub rowsWritten : ListAnswer → ℕ → ℕ
 rowsWritten answers.Finished months = months
 rowsWritten (answers.Refused refusal place) months = place - 1
+
+-- A row at place j of an output, counted from 0.
+pub record RowAt (output : List ℕ) (j : ℕ) (row : Row) : Type 0 where
+  pub dpm : getD output (7 * j) 0 ≡ row .dpm .0
+  pub rpm : getD output (7 * j + 1) 0 ≡ row .rpm .0
+  pub bio : getD output (7 * j + 2) 0 ≡ row .bio .0
+  pub hum : getD output (7 * j + 3) 0 ≡ row .hum .0
+  pub iom : getD output (7 * j + 4) 0 ≡ row .iom .0
+  pub co2 : getD output (7 * j + 5) 0 ≡ row .co2 .0
+  pub deficit : getD output (7 * j + 6) 0 ≡ row .deficit .0
+
+-- The state after so many months of a list from the one at place j.
+abbrev pub stateAt : List ℤ → List ℤ → ℕ → State → ℕ → State
+stateAt weather land j s ran = runCalls s (listCalls ran weather land j (s .months))
+
+-- The output has the row of the month that follows so many months: what that month's own call answers.
+pub record OwnRow (weather land : List ℤ) (j : ℕ) (s : State) (ran : ℕ) (output : List ℕ) : Type 0 where
+  pub row : Row
+  pub call :
+      monthCall (stateAt weather land j s ran) (stateAt weather land j s ran .months + 1) (entriesAt weather land (j + ran)) .answer
+      ≡ Done row
+  pub at : RowAt output (j + ran) row
 
 -- Demand 3 of a list from the new state of a soil, for so many months that ran.
 pub record ListDemand3 (s : Soil) (weather land : List ℤ) (months : ℕ) (after : State) : Type 0 where

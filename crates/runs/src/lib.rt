@@ -51,7 +51,7 @@ pub fn list_refusal_number(r: ListRefusal) -> u64
 }
 
 // The entries of the month at place j, counted from 0.
-pub fn entries_at(weather: &[i64], land: &[i64], j: usize) -> Entries
+fn entries_at(weather: &[i64], land: &[i64], j: usize) -> Entries
     requires { ⌜ (3 ≤ length (now weather)) × (3 * j + 3 ≤ length (now land)) ⌝ }
     ensures { λ r. ⌜ r ≡ entriesAt (now (weather .entry)) (now (land .entry)) j ⌝ }
 {
@@ -82,7 +82,7 @@ pub fn list_month(s: State, e: Entries) -> Outcome
 }
 
 // The row of the month at place j, in the output.
-pub fn write_row(out: &mut [u64], j: usize, row: Row)
+fn write_row(out: &mut [u64], j: usize, row: Row)
     requires { ⌜ 7 * j + 7 ≤ length (now out) ⌝ }
     ensures { λ r. ⌜ now (out .exit) ≡ written (now (out .entry)) j row ⌝ }
 {

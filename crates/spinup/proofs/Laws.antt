@@ -1,4 +1,5 @@
--- Laws of a spin-up.
+-- Laws of a spin-up that its functions rest on: what a year is, what its first year leaves to the others, and what the checks before
+-- the years find.
 -- Assumes nothing.
 use mathlib.Core.Path.{_≡_, refl, _∙_}
 use mathlib.Core.Bool.{Bool, true, false, _||_}

@@ -1,3 +1,5 @@
+-- `runs::entries_at` meets its contract: the rows lie within the slices, and each signed number is read back from its bits.
+-- Assumes nothing.
 use Prim.Native.Nat.{ℕ, _+_, _*_, _/_, _%_, _≤_}
 use native.Mathlib.Nat.{mod-lt}
 use native.Mathlib.Omega.{arith}
