@@ -6,10 +6,7 @@
 #include <stdlib.h>
 #include <time.h>
 
-// crates/bench: the four survival numbers of a rate number, mixed; the months done after a spin-up and after a list.
-extern uint64_t bench_survivals(uint64_t n);
-extern uint64_t bench_spin_up(const int64_t *weather, size_t weather_len, const int64_t *land, size_t land_len, uint64_t years);
-extern uint64_t bench_list(const int64_t *weather, size_t weather_len, const int64_t *land, size_t land_len, uint64_t *out, size_t out_len);
+#include "rothc.h"
 
 // Rothamsted's rain and evaporation (001) with round temperatures; crops from April to July.
 static const int64_t rothamsted[36] = {34, 740, 80, 39, 590, 100, 53, 620, 270, 78, 510, 490, 111, 520, 830, 143, 570, 990,
@@ -41,6 +38,33 @@ static field month(field f, const int64_t *w, const int64_t *l) {
 }
 
 static const field hoosfield = {0.1533, 4.4852, 0.6671, 25.8576, 2.7, 0, 0};
+static const uint64_t hoosfield_soil[ROTHC_SOIL] = {234, 23, 1, 153300, 4485200, 667100, 25857600, 2700000};
+
+// The months done after a list, and after a spin-up, from the new state of Hoosfield.
+static uint64_t proved_list(uint64_t *rows) {
+  uint64_t state[ROTHC_STATE], place;
+  rothc_start(hoosfield_soil, ROTHC_SOIL, state, ROTHC_STATE);
+  rothc_list(state, ROTHC_STATE, rothamsted, 36, land, 3600, rows, 8400, &place);
+  return state[ROTHC_STATE_MONTHS];
+}
+
+static uint64_t proved_spin_up(uint64_t years) {
+  uint64_t state[ROTHC_STATE], result[ROTHC_RESULT];
+  rothc_start(hoosfield_soil, ROTHC_SOIL, state, ROTHC_STATE);
+  rothc_spin_up(state, ROTHC_STATE, cold, 36, residue, 36, years, result, ROTHC_RESULT);
+  return state[ROTHC_STATE_MONTHS];
+}
+
+// A year of single month calls, and the same in floating point.
+static uint64_t proved_months(uint64_t *row) {
+  uint64_t state[ROTHC_STATE];
+  rothc_start(hoosfield_soil, ROTHC_SOIL, state, ROTHC_STATE);
+  for (int m = 0; m < 12; m++) {
+    int64_t entries[ROTHC_ENTRIES] = {rothamsted[3 * m], rothamsted[3 * m + 1], rothamsted[3 * m + 2], crops[3 * m], crops[3 * m + 1], crops[3 * m + 2]};
+    rothc_month(state, ROTHC_STATE, m + 1, entries, ROTHC_ENTRIES, row, ROTHC_ROW);
+  }
+  return state[ROTHC_STATE_MONTHS];
+}
 
 static double total(field f) { return f.dpm + f.rpm + f.bio + f.hum + f.iom; }
 
@@ -98,14 +122,14 @@ int main(void) {
     residue[3 * m] = crops[3 * m], residue[3 * m + 1] = 100000, residue[3 * m + 2] = 0;
   }
   for (int j = 0; j < 3600; j++) land[j] = crops[j % 36];
-  // the four survival numbers of a month over random N, beside four calls of exp
+  // The four survival numbers of a month over random N, beside four calls of exp. (rothc_survival makes the four and returns one.)
   for (int i = 0; i < NUMBERS; i++) {
     x ^= x << 13, x ^= x >> 7, x ^= x << 17;
     n[i] = x % 8363900001ull;
   }
   for (int run = 0; run < RUNS; run++) {
     double start = now();
-    for (int i = 0; i < NUMBERS; i++) sink += bench_survivals(n[i]);
+    for (int i = 0; i < NUMBERS; i++) sink += rothc_survival(n[i], 1);
     double middle = now();
     for (int i = 0; i < NUMBERS; i++) {
       double w = (double)n[i] / 1.2e12;
@@ -114,11 +138,24 @@ int main(void) {
     proved[run] = (middle - start) / NUMBERS * 1e9, plain[run] = (now() - middle) / NUMBERS * 1e9;
   }
   report("four survival numbers, four exp", "ns");
+  // single month calls: a year, a thousand times
+  for (int run = 0; run < RUNS; run++) {
+    double start = now();
+    for (int i = 0; i < 1000; i++) sink += proved_months(out);
+    double middle = now();
+    for (int i = 0; i < 1000; i++) {
+      field f = hoosfield;
+      for (int m = 0; m < 12; m++) f = month(f, rothamsted + 3 * m, crops + 3 * m);
+      floats += total(f);
+    }
+    proved[run] = (middle - start) / 12000 * 1e9, plain[run] = (now() - middle) / 12000 * 1e9;
+  }
+  report("a single month call", "ns");
   // lists of 1,200 months, once, ten and a hundred times
   for (int times = 1; times <= 100; times *= 10) {
     for (int run = 0; run < RUNS; run++) {
       double start = now();
-      for (int i = 0; i < times; i++) done = bench_list(rothamsted, 36, land, 3600, out, 8400);
+      for (int i = 0; i < times; i++) done = proved_list(out);
       double middle = now();
       for (int i = 0; i < times; i++) floats += float_list(rows);
       proved[run] = (middle - start) * 1e3, plain[run] = (now() - middle) * 1e3;
@@ -130,7 +167,7 @@ int main(void) {
   for (int years = 100; years <= 10000; years *= 10) {
     for (int run = 0; run < RUNS; run++) {
       double start = now();
-      done = bench_spin_up(cold, 36, residue, 36, years);
+      done = proved_spin_up(years);
       double middle = now();
       floats += float_spin_up(years);
       proved[run] = (middle - start) * 1e3, plain[run] = (now() - middle) * 1e3;

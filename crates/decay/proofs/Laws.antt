@@ -1,16 +1,27 @@
--- Laws of steps 5 and 6: known figures, shares and their roundings, the balance to the gram of each step, and what stands
--- at each index.
+-- Laws of step 5: roundings, the balance to the gram, and what stands at each index.
 -- Assumes nothing.
-use Prim.Native.Nat.{ℕ, _+_, _-_, _*_, _/_, _%_, _≤_, _<_}
-use mathlib.Core.Path.{_≡_, refl, sym, ap, _∙_}
-use mathlib.Core.List.{List, [], _∷_}
-use mathlib.Core.Bool.{Bool, true, false, cond}
-use native.Mathlib.Nat.{div-mul-le-self, lt-div-mul-add, div-le-of-le-mul, mul-div-cancel, mul-add-div-right, div-add-mod', mul-le-mul-left}
+use Prim.Native.Nat.{ℕ, _+_, _-_, _≤_}
+use mathlib.Core.Path.{_≡_, refl, ap}
+use mathlib.Core.List.{List}
 use native.Mathlib.Omega.{arith}
-use lib.Dec.{lit<, eqb}
+use lib.Dec.{lit<}
 use lib.ListN.{length, getD}
 use Rattle.units.specs.declared.Grams.{Grams}
-use Rattle.decay.specs.Decay.{share, grams, gramsAt, total, Survivals, Within, kept, lost, losses, formed, carbonDioxide, toBio, toHum, split, decayed, plantToDpm, plantToRpm, manureToDpm, manureToHum, manureToRpm, added}
+use Rattle.pools.specs.Pools.{share, gramsAt, total}
+use Rattle.pools.proofs.Laws.{four-grams, share-le, share-whole}
+use Rattle.decay.specs.Decay.{
+  Survivals,
+  Within,
+  kept,
+  lost,
+  losses,
+  formed,
+  carbonDioxide,
+  toBio,
+  toHum,
+  split,
+  decayed,
+}
 
 -- The roundings of step 5 at small numbers: of 3 g a pool at half survival keeps 1 and loses 2; of a loss of 3 g at half
 -- 1 is formed and 2 are CO2; of 5 g formed BIO gains 2 (of 2.3) and HUM 3 (of 2.7).
@@ -19,48 +30,6 @@ pub known-roundings :
     × (toBio 5 ≡ 2) × (toHum 5 ≡ 3)
 unfolding share
 known-roundings = (refl, refl, refl, refl, refl, refl)
-
--- Document 01's known figures of step 6: 61 g of plant carbon of kind 1 are 36 and 25; 99 g of manure are DPM 48,
--- RPM 50 and HUM 1.
-pub known-additions :
-    (plantToDpm 1 61 ≡ 36) × (plantToRpm 1 61 ≡ 25)
-    × (manureToDpm 99 ≡ 48) × (manureToRpm 99 ≡ 50) × (manureToHum 99 ≡ 1)
-unfolding plantToDpm share
-known-additions = (refl, refl, refl, refl, refl)
-
--- Lists of four grams are equal where their numbers are.
-pub four-grams :
-    {a a' b b' c c' d d' : ℕ} → a ≡ a' → b ≡ b' → c ≡ c' → d ≡ d'
-    → grams a ∷ grams b ∷ grams c ∷ grams d ∷ [] ≡ grams a' ∷ grams b' ∷ grams c' ∷ grams d' ∷ []
-four-grams p q r s = λ i. grams (p i) ∷ grams (q i) ∷ grams (r i) ∷ grams (s i) ∷ []
-
--- A share is the floor of x * part / whole: its product with the whole does not pass x * part, ..
-pub share-floor : (x part whole : ℕ) → share x part whole * whole ≤ x * part
-unfolding share
-share-floor x part whole = div-mul-le-self (x * part) whole
-
--- .. and that of the next number does.
-pub share-next : (x part whole : ℕ) → 0 < whole → x * part < (share x part whole + 1) * whole
-unfolding share
-share-next x part whole pos = omega (arith, lt-div-mul-add {a = x * part} {b = whole} pos)
-
--- A share of at most the whole is at most x.
-pub share-le : (x : ℕ) {part whole : ℕ} → part ≤ whole → share x part whole ≤ x
-unfolding share
-share-le x {part} {whole} h = div-le-of-le-mul whole (omega (arith, mul-le-mul-left x h))
-
--- All parts are all of x.
-pub share-whole : (x : ℕ) {whole : ℕ} → 0 < whole → share x whole whole ≡ x
-unfolding share
-share-whole x pos = mul-div-cancel x pos
-
--- The share of the quotient, which is whole, and that of the remainder, rounded down, make the share of x.
-pub share-parts : (x part : ℕ) {whole : ℕ} → 0 < whole → x / whole * part + x % whole * part / whole ≡ share x part whole
-unfolding share
-share-parts x part {whole} pos =
-    let product : x / whole * part * whole + x % whole * part ≡ x * part =
-    omega (arith, ap (λ (t : ℕ). t * part) (div-add-mod' x whole)) in
-    sym (mul-add-div-right pos (x / whole * part) (x % whole * part)) ∙ ap (λ (t : ℕ). t / whole) product
 
 -- A pool keeps at most what it has.
 pub kept-le : (y : ℕ) {s : ℕ} → s ≤ 1000000000 → kept y s ≤ y
@@ -133,30 +102,6 @@ decay-balance pools survival r s h =
       bio-hum (formed l r),
     )
 
-cond-le : (t : Bool) {a b x : ℕ} → a ≤ x → b ≤ x → cond t a b ≤ x
-cond-le true ha hb = ha
-cond-le false ha hb = hb
-
--- DPM gets at most the plant carbon, whatever the kind.
-pub plant-le : (kind plant : ℕ) → plantToDpm kind plant ≤ plant
-unfolding plantToDpm share
-plant-le kind plant = cond-le (eqb kind 1) (omega arith) (cond-le (eqb kind 2) (omega arith) (omega arith))
-
--- DPM and RPM together get the plant carbon.
-pub plant-parts : (kind plant : ℕ) → plantToDpm kind plant + plantToRpm kind plant ≡ plant
-plant-parts kind plant = omega (arith, plant-le kind plant)
-
--- DPM, RPM and HUM together get the manure.
-pub manure-parts : (manure : ℕ) → manureToDpm manure + manureToRpm manure + manureToHum manure ≡ manure
-unfolding share
-manure-parts manure = omega arith
-
--- The balance of step 6, to the gram: the pools after it are the pools before it and what is added.
-pub added-balance :
-    (pools : List Grams) (kind plant manure : ℕ) → total (added pools kind plant manure) ≡ total pools + plant + manure
-unfolding total added
-added-balance pools kind plant manure = omega (arith, plant-parts kind plant, manure-parts manure)
-
 -- What stands at each index after step 5, and that there are four.
 module _ (pools : List Grams) (survival : List ℕ) (r : ℕ) where
   pub decayed-length : length (decayed pools survival r) ≡ 4
@@ -182,27 +127,3 @@ module _ (pools : List Grams) (survival : List ℕ) (r : ℕ) where
       ≡ kept (gramsAt pools 3) (getD survival 3 0) + toHum (formed (total (losses pools survival)) r)
   unfolding decayed
   decayed-hum = refl
-
--- What stands at each index after step 6, and that there are four.
-module _ (pools : List Grams) (kind plant manure : ℕ) where
-  pub added-length : length (added pools kind plant manure) ≡ 4
-  unfolding added
-  added-length = refl
-
-  pub added-dpm :
-      gramsAt (added pools kind plant manure) 0 ≡ gramsAt pools 0 + plantToDpm kind plant + manureToDpm manure
-  unfolding added
-  added-dpm = refl
-
-  pub added-rpm :
-      gramsAt (added pools kind plant manure) 1 ≡ gramsAt pools 1 + plantToRpm kind plant + manureToRpm manure
-  unfolding added
-  added-rpm = refl
-
-  pub added-bio : gramsAt (added pools kind plant manure) 2 ≡ gramsAt pools 2
-  unfolding added
-  added-bio = refl
-
-  pub added-hum : gramsAt (added pools kind plant manure) 3 ≡ gramsAt pools 3 + manureToHum manure
-  unfolding added
-  added-hum = refl

@@ -1,27 +1,10 @@
--- Steps 5 and 6 of document 01: what each pool keeps and loses, what the losses form, and the additions.
+-- Step 5 of document 01: what each pool keeps and loses, and what the losses form.
 -- Four pools, or their four losses, are a list of grams in the order DPM, RPM, BIO, HUM: indices 0, 1, 2, 3.
-use Prim.Native.Nat.{ℕ, _+_, _-_, _*_, _/_, _≤_}
+use Prim.Native.Nat.{ℕ, _+_, _-_, _≤_}
 use mathlib.Core.List.{List, [], _∷_}
-use mathlib.Core.Bool.{cond}
 use lib.ListN.{getD}
-use lib.Dec.{eqb}
 use Rattle.units.specs.declared.Grams.{Grams}
-
--- `part` of the `whole` equal parts of x, rounded down.
-unfoldable pub share : ℕ → ℕ → ℕ → ℕ
-share x part whole = x * part / whole
-
--- n grams, as a value of that type.
-abbrev pub grams : ℕ → Grams
-grams n = record { 0 = n }
-
--- The number of grams at index i of a list.
-abbrev pub gramsAt : List Grams → ℕ → ℕ
-gramsAt list i = getD list i (grams 0) .0
-
--- The four, added.
-unfoldable pub total : List Grams → ℕ
-total four = gramsAt four 0 + gramsAt four 1 + gramsAt four 2 + gramsAt four 3
+use Rattle.pools.specs.Pools.{share, grams, gramsAt, total}
 
 -- Step 4's range, which step 5 takes for granted: each of the four survival numbers is at most 1,000,000,000.
 pub record Survivals (survival : List ℕ) : Type 0 where
@@ -88,33 +71,3 @@ pub record Within (given pools : List Grams) : Type 0 where
   pub rpm : gramsAt given 1 ≤ gramsAt pools 1
   pub bio : gramsAt given 2 ≤ gramsAt pools 2
   pub hum : gramsAt given 3 ≤ gramsAt pools 3
-
--- Step 6: of plant carbon DPM gets 36/61 (kind 1), 67/167 (kind 2) or 1/5 (kind 3), rounded down.
--- (`cond` gives the first where the test is true.)
-unfoldable pub plantToDpm : ℕ → ℕ → ℕ
-plantToDpm kind plant = cond (eqb kind 1) (share plant 36 61) (cond (eqb kind 2) (share plant 67 167) (share plant 1 5))
-
--- Step 6: RPM gets the rest of the plant carbon.
-abbrev pub plantToRpm : ℕ → ℕ → ℕ
-plantToRpm kind plant = plant - plantToDpm kind plant
-
--- Step 6: of manure DPM gets 49 hundredths, rounded down, ..
-abbrev pub manureToDpm : ℕ → ℕ
-manureToDpm manure = share manure 49 100
-
--- .. HUM 2 hundredths, rounded down, ..
-abbrev pub manureToHum : ℕ → ℕ
-manureToHum manure = share manure 2 100
-
--- .. and RPM the rest.
-abbrev pub manureToRpm : ℕ → ℕ
-manureToRpm manure = manure - manureToDpm manure - manureToHum manure
-
--- Step 6, whole: the four pools with plant carbon of a kind and manure. BIO gets nothing.
-unfoldable pub added : List Grams → ℕ → ℕ → ℕ → List Grams
-added pools kind plant manure =
-    grams (gramsAt pools 0 + plantToDpm kind plant + manureToDpm manure)
-    ∷ grams (gramsAt pools 1 + plantToRpm kind plant + manureToRpm manure)
-    ∷ grams (gramsAt pools 2)
-    ∷ grams (gramsAt pools 3 + manureToHum manure)
-    ∷ []

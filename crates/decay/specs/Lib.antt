@@ -1,3 +1,3 @@
--- What steps 5 and 6 of document 01 give.
+-- What steps 4 and 5 of document 01 give the four pools.
 pub mod Rates
 pub mod Decay

@@ -1,9 +1,11 @@
-// Steps 5 and 6 of document 01 on four pools by value: what they keep and lose, what the losses form, the additions.
+// Step 4 for the four pools and step 5 of document 01, by value: survival numbers, what the pools keep and lose, what the losses form.
 ghost use mathlib.Core.Path.{_≡_};
-ghost use Prim.Native.Nat.{_+_, _≤_, _<_, _^_};
-ghost use Rattle.decay.specs.Decay.{share, total, Survivals, lost, losses, formed, carbonDioxide, toBio};
-ghost use Rattle.decay.specs.Decay.{decayed, split, Within, plantToDpm, manureToDpm, manureToHum, added};
+ghost use Prim.Native.Nat.{_≤_, _<_, _^_};
+ghost use Rattle.pools.specs.Pools.{total};
+ghost use Rattle.decay.specs.Decay.{Survivals, lost, losses, formed, carbonDioxide, toBio, decayed, split, Within};
 ghost use Rattle.decay.specs.Rates.{survivals};
+use pools::share;
+use pools::total;
 use survival::survival;
 use units::Grams;
 
@@ -22,14 +24,6 @@ pub fn survivals(n: u64) -> [u64; 4]
     [dpm, rpm, bio, hum]
 }
 
-// part of the whole equal parts of x, rounded down. x is divided first, so that no product passes 64 bits for any x.
-fn share(x: u64, part: u64, whole: u64) -> u64
-    requires { ⌜ (0 < whole) × (whole ≤ 1000000000) × (part ≤ whole) ⌝ }
-    ensures { λ r. ⌜ (r ≡ share x part whole) × (r ≤ x) ⌝ }
-{
-    x / whole * part + x % whole * part / whole
-}
-
 // What a pool of y grams loses at the survival number s.
 fn loss(y: Grams, s: u64) -> Grams
     requires { ⌜ s ≤ 1000000000 ⌝ }
@@ -40,7 +34,7 @@ fn loss(y: Grams, s: u64) -> Grams
 }
 
 // What each of the four pools loses.
-pub fn losses(pools: [Grams; 4], survival: [u64; 4]) -> [Grams; 4]
+fn losses(pools: [Grams; 4], survival: [u64; 4]) -> [Grams; 4]
     requires { ⌜ Survivals survival ⌝ }
     ensures { λ r. ⌜ r ≡ losses pools survival ⌝ }
 {
@@ -49,15 +43,6 @@ pub fn losses(pools: [Grams; 4], survival: [u64; 4]) -> [Grams; 4]
     let bio = loss(pools[2], survival[2]);
     let hum = loss(pools[3], survival[3]);
     [dpm, rpm, bio, hum]
-}
-
-// The four, added.
-pub fn total(grams: [Grams; 4]) -> Grams
-    requires { ⌜ total grams < 2 ^ 64 ⌝ }
-    ensures { λ r. ⌜ r .0 ≡ total grams ⌝ }
-{
-    let sum = grams[0].0 + grams[1].0 + grams[2].0 + grams[3].0;
-    Grams(sum)
 }
 
 // What losses of l grams together form at the clay number r.
@@ -82,7 +67,7 @@ pub struct Decayed {
 }
 
 // The split of the four losses: what they form goes to BIO and HUM, and the rest is CO2.
-pub fn split(pools: [Grams; 4], lost: [Grams; 4], r: u64) -> Decayed
+fn split(pools: [Grams; 4], lost: [Grams; 4], r: u64) -> Decayed
     requires { ⌜ Within lost pools × (r ≤ 1000000) × (total pools < 2 ^ 64) ⌝ }
     ensures pools { λ d. ⌜ d .pools ≡ split pools lost r ⌝ }
     ensures co2 { λ d. ⌜ d .co2 .0 ≡ carbonDioxide (total lost) r ⌝ }
@@ -110,48 +95,4 @@ pub fn decay(pools: [Grams; 4], survival: [u64; 4], r: u64) -> Decayed
 {
     let lost = losses(pools, survival);
     split(pools, lost, r)
-}
-
-// What DPM gets of plant carbon of a kind.
-fn plant_to_dpm(kind: u64, plant: Grams) -> Grams
-    requires { ⌜ (1 ≤ kind) × (kind ≤ 3) ⌝ }
-    ensures { λ r. ⌜ r .0 ≡ plantToDpm kind (plant .0) ⌝ }
-{
-    if kind == 1 {
-        return Grams(share(plant.0, 36, 61));
-    }
-    if kind == 2 {
-        return Grams(share(plant.0, 67, 167));
-    }
-    Grams(share(plant.0, 1, 5))
-}
-
-// What DPM gets of manure.
-fn manure_to_dpm(manure: Grams) -> Grams
-    ensures { λ r. ⌜ r .0 ≡ manureToDpm (manure .0) ⌝ }
-{
-    Grams(share(manure.0, 49, 100))
-}
-
-// What HUM gets of manure.
-fn manure_to_hum(manure: Grams) -> Grams
-    ensures { λ r. ⌜ r .0 ≡ manureToHum (manure .0) ⌝ }
-{
-    Grams(share(manure.0, 2, 100))
-}
-
-// Step 6: plant carbon and manure come into the four pools, RPM getting the rest of each.
-pub fn additions(pools: [Grams; 4], kind: u64, plant: Grams, manure: Grams) -> [Grams; 4]
-    requires { ⌜ (1 ≤ kind) × (kind ≤ 3) × (total pools + plant .0 + manure .0 < 2 ^ 64) ⌝ }
-    ensures { λ r. ⌜ r ≡ added pools kind (plant .0) (manure .0) ⌝ }
-{
-    let plant_dpm = plant_to_dpm(kind, plant).0;
-    let manure_dpm = manure_to_dpm(manure).0;
-    let manure_hum = manure_to_hum(manure).0;
-    let plant_rpm = plant.0 - plant_dpm;
-    let manure_rpm = manure.0 - manure_dpm - manure_hum;
-    let dpm = pools[0].0 + plant_dpm + manure_dpm;
-    let rpm = pools[1].0 + plant_rpm + manure_rpm;
-    let hum = pools[3].0 + manure_hum;
-    [Grams(dpm), Grams(rpm), pools[2], Grams(hum)]
 }

@@ -4,7 +4,8 @@ use Rattle.factors.specs.TemperatureTable.{temperatureTable}
 use Rattle.factors.specs.ClayTable.{clayTable}
 use Rattle.factors.specs.Factors.{temperatureFactor, factorAt, clayNumber}
 use Rattle.water.specs.Water.{maxDeficit, moistureFactor, halvesUp}
-use Rattle.decay.specs.Decay.{share, plantToDpm}
+use Rattle.pools.specs.Pools.{share}
+use Rattle.additions.specs.Additions.{plantToDpm}
 use Rattle.figures.specs.Figures.{KnownFigures}
 
 pub known-figures : KnownFigures

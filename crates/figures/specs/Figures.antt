@@ -3,7 +3,7 @@ use mathlib.Core.Path.{_≡_}
 use lib.IntN.{pos, negsuc}
 use Rattle.factors.specs.Factors.{temperatureFactor, clayNumber}
 use Rattle.water.specs.Water.{maxDeficit, moistureFactor}
-use Rattle.decay.specs.Decay.{plantToDpm, plantToRpm, manureToDpm, manureToRpm, manureToHum}
+use Rattle.additions.specs.Additions.{plantToDpm, plantToRpm, manureToDpm, manureToRpm, manureToHum}
 
 -- `negsuc n` is -(n + 1). A deficit of 27.50 mm is 56,925,000 parts.
 pub record KnownFigures : Type 0 where

@@ -1,8 +1,6 @@
 // Runs the leaves on document 01's known figures that need no month call, on 001's deficit table for Rothamsted, and on the places
-// where a rounding is tightest. What it must write, `stdout`, is made by reference/figures.py and not by this program.
+// where a rounding is tightest. What it must write, `stdout`, is made by the reference and not by this program.
 mod deficits;
-mod survival_vectors;
-mod survivals;
 
 ghost use Prim.Native.Nat.{_≤_};
 ghost use Rattle.figures.specs.Figures.{KnownFigures};
@@ -59,7 +57,7 @@ fn of_nothing(kind: u64, plant: u64, manure: u64) -> [Grams; 4]
     requires { ⌜ (1 ≤ kind) × (kind ≤ 3) × (plant ≤ 1000000) × (manure ≤ 1000000) ⌝ }
 {
     let none = [Grams(0), Grams(0), Grams(0), Grams(0)];
-    decay::additions(none, kind, Grams(plant), Grams(manure))
+    additions::additions(none, kind, Grams(plant), Grams(manure))
 }
 
 // The splits of plant carbon and manure.
@@ -92,5 +90,4 @@ fn known_figures()
 fn main() {
     known_figures();
     deficits::rothamsted();
-    survivals::within_one();
 }

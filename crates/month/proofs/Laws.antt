@@ -8,7 +8,8 @@ use native.Mathlib.Omega.{arith}
 use borrow.Author.Tests.{ne-eqb}
 use lib.IntN.{natAbs}
 use Rattle.decay.specs.Rates.{survivals}
-use Rattle.decay.specs.Decay.{Survivals, total}
+use Rattle.pools.specs.Pools.{total}
+use Rattle.decay.specs.Decay.{Survivals}
 use Rattle.state.specs.declared.Soil.{Soil}
 use Rattle.state.specs.declared.State.{State}
 use Rattle.state.specs.declared.Entries.{Entries}

@@ -17,8 +17,10 @@ use Rattle.water.proofs.Laws.{maxDeficit-top, maxDeficit-positive, moistureFact
 use Rattle.survival.specs.Survival.{coverFactor, rateNumber}
 use Rattle.survival.proofs.Laws.{is-survival}
 use Rattle.decay.specs.Rates.{survivals}
-use Rattle.decay.specs.Decay.{Survivals, total, losses, decayed}
-use Rattle.decay.proofs.Laws.{decay-balance, added-balance}
+use Rattle.pools.specs.Pools.{total}
+use Rattle.decay.specs.Decay.{Survivals, losses, decayed}
+use Rattle.decay.proofs.Laws.{decay-balance}
+use Rattle.additions.proofs.Laws.{added-balance}
 use Rattle.state.specs.declared.Soil.{Soil}
 use Rattle.state.specs.declared.State.{State}
 use Rattle.state.specs.declared.Entries.{Entries}

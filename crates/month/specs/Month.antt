@@ -9,7 +9,9 @@ use Rattle.factors.specs.Factors.{temperatureFactor, clayNumber}
 use Rattle.water.specs.Water.{maxDeficit, newDeficit, moistureFactor}
 use Rattle.survival.specs.Survival.{rateNumber}
 use Rattle.decay.specs.Rates.{survivals}
-use Rattle.decay.specs.Decay.{grams, gramsAt, total, losses, carbonDioxide, decayed, added}
+use Rattle.pools.specs.Pools.{grams, gramsAt, total}
+use Rattle.decay.specs.Decay.{losses, carbonDioxide, decayed}
+use Rattle.additions.specs.Additions.{added}
 use Rattle.state.specs.declared.Soil.{Soil}
 use Rattle.state.specs.declared.State.{State}
 use Rattle.state.specs.declared.Entries.{Entries}

@@ -6,7 +6,8 @@ use lib.Dec.{lit<, eqb}
 use lib.IntN.{natAbs}
 use Rattle.exact.specs.Fraction.{ratio, whole, _⊟_, _⊠_}
 use Rattle.exact.proofs.Close.{Close, close-whole, close-times, close-difference, close-share}
-use Rattle.decay.specs.Decay.{share, plantToDpm, plantToRpm, manureToDpm, manureToHum, manureToRpm}
+use Rattle.pools.specs.Pools.{share}
+use Rattle.additions.specs.Additions.{plantToDpm, plantToRpm, manureToDpm, manureToHum, manureToRpm}
 use Rattle.state.specs.declared.Soil.{Soil}
 use Rattle.state.specs.declared.Entries.{Entries}
 use Rattle.recurrence.specs.Recurrence.{plantPart, manurePart}

@@ -4,7 +4,8 @@ use Prim.Native.Nat.{ℕ, _≤_}
 use native.Mathlib.Omega.{arith}
 use Rattle.factors.specs.Factors.{clayNumber}
 use Rattle.decay.specs.Rates.{survivals}
-use Rattle.decay.specs.Decay.{total, Survivals}
+use Rattle.pools.specs.Pools.{total}
+use Rattle.decay.specs.Decay.{Survivals}
 use Rattle.state.specs.declared.State.{State}
 use Rattle.state.specs.declared.Entries.{Entries}
 use Rattle.state.specs.declared.Check.the-variants.{Pass}

@@ -5,7 +5,7 @@ use Prim.Native.Nat.{_+_, _*_}
 use native.Mathlib.Nat.{zero-add}
 use native.Mathlib.Omega.{arith}
 use Rattle.exact.specs.Fraction.{_≼_, whole}
-use Rattle.decay.specs.Decay.{total}
+use Rattle.pools.specs.Pools.{total}
 use Rattle.state.specs.declared.Soil.{Soil}
 use Rattle.state.specs.NewState.{newState}
 use Rattle.recurrence.specs.Calls.{Call, runCalls, acceptedCalls, addedCarbon}

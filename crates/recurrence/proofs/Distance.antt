@@ -9,7 +9,7 @@ use native.Mathlib.Omega.{arith}
 use lib.Dec.{lit<}
 use Rattle.exact.specs.Fraction.{_≼_, whole, distance}
 use Rattle.exact.proofs.Fraction.{At, at-whole, at-sum, at-distance, le-at, ≼-trans, sum-most}
-use Rattle.decay.specs.Decay.{gramsAt}
+use Rattle.pools.specs.Pools.{gramsAt}
 use Rattle.state.specs.declared.Soil.{Soil}
 use Rattle.state.specs.declared.State.{State}
 use Rattle.state.specs.declared.Entries.{Entries}

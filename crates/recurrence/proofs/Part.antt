@@ -7,8 +7,9 @@ use lib.Dec.{lit<}
 use Rattle.exact.specs.Fraction.{Fraction, _⊠_}
 use Rattle.exact.proofs.Fraction.{At, at-whole, at-ratio, at-self, at-times, times-at, at-difference, at-product, at-distance, at-le}
 use Rattle.exact.proofs.Close.{Near, Close}
-use Rattle.decay.specs.Decay.{share, kept, lost}
-use Rattle.decay.proofs.Laws.{share-floor, share-next}
+use Rattle.pools.specs.Pools.{share}
+use Rattle.decay.specs.Decay.{kept, lost}
+use Rattle.pools.proofs.Laws.{share-floor, share-next}
 use Rattle.recurrence.specs.Recurrence.{Fractions, Allowed, exactLost}
 
 -- A share is at most a whole from x × part.

@@ -12,7 +12,9 @@ use Rattle.exact.proofs.Fraction.{At, at-whole, at-times, at-sum, at-distance, 
 use Rattle.exact.proofs.Close.{Near, Close, close-self, close-times, times-close, close-sum, close-share, close-distance, close-most}
 use Rattle.factors.specs.Factors.{clayNumber}
 use Rattle.decay.specs.Rates.{survivals}
-use Rattle.decay.specs.Decay.{share, gramsAt, total, Survivals, losses, formed, toBio, toHum, decayed, added}
+use Rattle.pools.specs.Pools.{share, gramsAt, total}
+use Rattle.decay.specs.Decay.{Survivals, losses, formed, toBio, toHum, decayed}
+use Rattle.additions.specs.Additions.{added}
 use Rattle.state.specs.declared.Soil.{Soil}
 use Rattle.state.specs.declared.State.{State}
 use Rattle.state.specs.declared.Entries.{Entries}

@@ -3,7 +3,7 @@ use mathlib.Core.Path.{_≡_}
 use mathlib.Core.List.{List}
 use Prim.Native.Nat.{ℕ, _+_, _*_}
 use Rattle.exact.specs.Fraction.{Fraction, _≼_, whole, _⊞_, distance}
-use Rattle.decay.specs.Decay.{gramsAt, total}
+use Rattle.pools.specs.Pools.{gramsAt, total}
 use Rattle.state.specs.declared.Soil.{Soil}
 use Rattle.state.specs.declared.State.{State}
 use Rattle.state.specs.declared.Check.the-variants.{Pass}

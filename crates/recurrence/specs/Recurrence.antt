@@ -9,7 +9,7 @@ use lib.IntN.{natAbs}
 use Rattle.exact.specs.Fraction.{Fraction, _≼_, ratio, whole, _⊞_, _⊟_, _⊠_, distance}
 use Rattle.factors.specs.Factors.{clayNumber}
 use Rattle.survival.specs.Survival.{survivalNumber}
-use Rattle.decay.specs.Decay.{gramsAt}
+use Rattle.pools.specs.Pools.{gramsAt}
 use Rattle.state.specs.declared.Soil.{Soil}
 use Rattle.state.specs.declared.State.{State}
 use Rattle.state.specs.declared.Entries.{Entries}

@@ -1,31 +1,27 @@
--- Laws of a list of months that its functions rest on: what a month of it is, what its first month leaves to the others, and what the
--- checks before the months find.
+-- Laws of a list of months that its functions rest on: what its first month leaves to the others, and what the checks before the
+-- months find.
 -- Assumes nothing.
 use mathlib.Core.Path.{_≡_, refl, _∙_, ap}
 use mathlib.Core.Bool.{Bool, true, false, not, _||_}
 use mathlib.Core.List.{List}
 use Prim.Native.Nat.{ℕ, suc, _+_, _-_, _/_, _%_, _≤_}
 use native.Mathlib.Omega.{arith}
-use borrow.Author.Tests.{eq-eqb, ltb-false}
+use borrow.Author.Tests.{ltb-false}
 use lib.Dec.{ltb, eqb}
 use lib.IntN.{ℤ}
-use lib.ListN.{length, length-set}
+use lib.ListN.{length}
 use Rattle.state.specs.declared.State.{State}
-use Rattle.state.specs.declared.Entries.{Entries}
-use Rattle.state.specs.declared.Check.{Check}
 use Rattle.state.specs.declared.Check.the-variants.{Pass, Refuse}
 use Rattle.state.specs.declared.Refusal.{Refusal}
 use Rattle.state.specs.declared.Refusal.the-variants.{StateBounds}
-use Rattle.state.specs.Refusal.{given, soilCheck, outOfBounds, stateCheck, entriesCheck, turnCheck, monthCheck}
-use Rattle.state.proofs.Checks.{sound-state, state-passes, ready}
+use Rattle.state.specs.Refusal.{given, soilCheck, outOfBounds, stateCheck}
 use Rattle.month.specs.declared.Row.{Row}
 use Rattle.month.specs.declared.Answer.the-variants.{Done, Refused}
-use Rattle.month.specs.Month.{outcomeOf, monthCall}
-use Rattle.month.proofs.Laws.{moved}
 use Rattle.runs.specs.declared.ListRefusal.{ListRefusal}
 use Rattle.runs.specs.declared.ListRefusal.the-variants.{Rows, Room, Of}
 use Rattle.runs.specs.declared.ListOutcome.{ListOutcome}
-use Rattle.runs.specs.Run.{rowCount, badRows, noRoom, entriesAt, written, Left, listRefused, refusedAt, listMonth, months}
+use Rattle.rows.specs.Rows.{rowCount, entriesAt, written, listMonth}
+use Rattle.runs.specs.Run.{badRows, noRoom, Left, listRefused, refusedAt, months}
 use Rattle.runs.specs.Run.{listGiven, listChecked, afterSoil, run}
 
 -- ---- what a list leaves
@@ -43,24 +39,6 @@ leaves e = (ap (λ (l : Left). l .outcome) e, ap (λ (l : Left). l .output) e)
 pub leaves-refused : {left : Left} {refusal : ListRefusal} {s : State} {outcome : ListOutcome} {out : List ℕ}
     → left ≡ refusedAt refusal 0 s out → outcome ≡ listRefused refusal 0 s → Leaves left outcome out
 leaves-refused e is = rw e (is, refl)
-
--- ---- a month of a list
-
--- It is the single month call with the number of the next month.
-pub single : (s : State) (e : Entries) → stateCheck s ≡ Pass → listMonth s e ≡ monthCall s (s .months + 1) e
-unfolding listMonth monthCall monthCheck turnCheck
-single s e h = rw (h, eq-eqb (s .months + 1) (s .months + 1) refl)
-
--- The state that it leaves passes 4 to 7 and 10 again, accepted or refused.
-still-sound : (s : State) (e : Entries) (check : Check) → entriesCheck s e ≡ check → stateCheck s ≡ Pass
-    → stateCheck (outcomeOf check s e .state) ≡ Pass
-unfolding outcomeOf
-still-sound s e Pass h sound = state-passes _ (moved s e (sound-state s sound) (ready s e h) .sound)
-still-sound s e (Refuse refusal) h sound = sound
-
-pub month-sound : (s : State) (e : Entries) → stateCheck s ≡ Pass → stateCheck (listMonth s e .state) ≡ Pass
-unfolding listMonth
-month-sound s e sound = still-sound s e (entriesCheck s e) refl sound
 
 -- ---- a list is its first month, and the months after it
 
@@ -131,10 +109,3 @@ module _ (s : State) (weather land : List ℤ) (out : List ℕ) where
 
     pub runs-months : stateCheck s ≡ Pass → afterSoil s weather land out ≡ months (rowCount land) weather land 0 s out
     runs-months good = whole-check ∙ rw good
-
--- ---- the output
-
--- A row's length is that of the output that it is written to.
-pub written-length : (out : List ℕ) (j : ℕ) (row : Row) → length (written out j row) ≡ length out
-unfolding written
-written-length out j row = simp length-set

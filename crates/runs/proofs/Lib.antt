@@ -1,4 +1,2 @@
 pub mod Laws
 pub mod Months
-pub mod ListCalls
-pub mod Rows

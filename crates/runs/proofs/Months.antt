@@ -23,12 +23,13 @@ use Rattle.month.specs.declared.Answer.{Answer}
 use Rattle.month.specs.declared.Answer.the-variants.{Done, Refused}
 use Rattle.runs.specs.declared.ListRefusal.{ListRefusal}
 use Rattle.runs.specs.declared.ListRefusal.the-variants.{Rows, Room, Of}
-use Rattle.runs.specs.declared.ListAnswer.{ListAnswer}
 use Rattle.runs.specs.declared.ListAnswer.the-variants as answers
-use Rattle.runs.specs.Run.{rowCount, badRows, noRoom, entriesAt, written, Left, refusedAt, listMonth, onward, months}
+use Rattle.rows.specs.Rows.{rowCount, entriesAt, written, listMonth}
+use Rattle.runs.specs.Run.{badRows, noRoom, Left, refusedAt, onward, months}
 use Rattle.runs.specs.Run.{listGiven, listChecked, afterSoil, run}
-use Rattle.runs.specs.ListCalls.{rowsWritten}
-use Rattle.runs.proofs.Laws.{month-sound, goes-on, stops, written-length}
+use Rattle.runs.specs.Run.{rowsWritten}
+use Rattle.rows.proofs.Laws.{month-sound, written-length}
+use Rattle.runs.proofs.Laws.{goes-on, stops}
 
 -- ---- how the months go
 

@@ -1,21 +1,18 @@
 -- A list of months, step 7 of document 01, and its refusals: 3, 4 to 7, 8 and 10 with place 0, then month by month 12 to 17.
 use mathlib.Core.Bool.{Bool, true, false, not, _||_}
 use mathlib.Core.List.{List}
-use Prim.Native.Nat.{ℕ, zero, suc, _+_, _*_, _/_, _%_}
+use Prim.Native.Nat.{ℕ, zero, suc, _+_, _-_, _*_, _%_}
 use lib.Dec.{ltb, eqb}
-use lib.IntN.{ℤ, pos}
-use lib.ListN.{length, getD, set}
+use lib.IntN.{ℤ}
+use lib.ListN.{length}
 use Rattle.state.specs.declared.State.{State}
-use Rattle.state.specs.declared.Entries.{Entries}
 use Rattle.state.specs.declared.Check.{Check}
 use Rattle.state.specs.declared.Check.the-variants.{Pass, Refuse}
 use Rattle.state.specs.declared.Refusal.the-variants.{StateBounds}
-use Rattle.state.specs.Refusal.{refusalNumber, soilCheck, outOfBounds, entriesCheck}
-use Rattle.month.specs.declared.Row.{Row}
+use Rattle.state.specs.Refusal.{refusalNumber, soilCheck, outOfBounds}
 use Rattle.month.specs.declared.Answer.{Answer}
 use Rattle.month.specs.declared.Answer.the-variants.{Done, Refused}
-use Rattle.month.specs.declared.Outcome.{Outcome}
-use Rattle.month.specs.Month.{outcomeOf}
+use Rattle.rows.specs.Rows.{rowCount, entriesAt, written, listMonth}
 use Rattle.runs.specs.declared.ListRefusal.{ListRefusal}
 use Rattle.runs.specs.declared.ListRefusal.the-variants.{Rows, Room, Of}
 use Rattle.runs.specs.declared.ListAnswer.{ListAnswer}
@@ -28,10 +25,6 @@ listRefusalNumber Rows = 3
 listRefusalNumber Room = 8
 listRefusalNumber (Of refusal) = refusalNumber refusal
 
--- A list of numbers, three a row.
-abbrev pub rowCount : List ℤ → ℕ
-rowCount numbers = length numbers / 3
-
 -- 3: a list isn't three numbers a row, or its rows are outside 1 to 1,200.
 abbrev pub badRows : List ℤ → Bool
 badRows numbers = not (eqb (length numbers % 3) 0) || (ltb (rowCount numbers) 1 || ltb 1200 (rowCount numbers))
@@ -39,35 +32,6 @@ badRows numbers = not (eqb (length numbers % 3) 0) || (ltb (rowCount numbers) 1 
 -- 8: the output is too short for seven numbers a land row.
 abbrev pub noRoom : List ℤ → List ℕ → Bool
 noRoom land out = ltb (length out) (7 * rowCount land)
-
--- The entries of the month at place j, counted from 0: land row j, and weather row j mod the weather's rows.
-unfoldable pub entriesAt : List ℤ → List ℤ → ℕ → Entries
-entriesAt weather land j =
-    record {
-      temperature = getD weather (3 * (j % rowCount weather)) (pos 0);
-      rain = getD weather (3 * (j % rowCount weather) + 1) (pos 0);
-      evaporation = getD weather (3 * (j % rowCount weather) + 2) (pos 0);
-      cover = getD land (3 * j) (pos 0);
-      plant = getD land (3 * j + 1) (pos 0);
-      manure = getD land (3 * j + 2) (pos 0);
-    }
-
--- The output with the row of the month at place j: five pools, CO2, D. Everything else stays.
-unfoldable pub written : List ℕ → ℕ → Row → List ℕ
-written out j row =
-    set
-    (set
-    (set
-    (set
-    (set (set (set out (7 * j) (row .dpm .0)) (7 * j + 1) (row .rpm .0)) (7 * j + 2) (row .bio .0))
-    (7 * j + 3)
-    (row .hum .0))
-    (7 * j + 4)
-    (row .iom .0))
-    (7 * j + 5)
-    (row .co2 .0))
-    (7 * j + 6)
-    (row .deficit .0)
 
 -- What a list leaves: its answer with the state, and the output.
 pub record Left : Type 0 where
@@ -81,10 +45,6 @@ listRefused refusal place s = record { answer = answers.Refused refusal place; s
 -- The same, with the output as it is.
 abbrev pub refusedAt : ListRefusal → ℕ → State → List ℕ → Left
 refusedAt refusal place s out = record { outcome = listRefused refusal place s; output = out }
-
--- A list's month: 12 to 17 are asked, and no month number.
-unfoldable pub listMonth : State → Entries → Outcome
-listMonth s e = outcomeOf (entriesCheck s e) s e
 
 -- After the month at place j: refused, the list stops there with the state and the rows before it; else its row is written, and the
 -- later months follow.
@@ -103,6 +63,11 @@ months zero weather land j s out = record { outcome = record { answer = answers.
 months (suc left) weather land j s out =
     onward (listMonth s (entriesAt weather land j) .answer) (listMonth s (entriesAt weather land j) .state) j out
     (λ s' out'. months left weather land (suc j) s' out')
+
+-- The rows that a list of so many months has written: all, or those before the month that was refused.
+abbrev pub rowsWritten : ListAnswer → ℕ → ℕ
+rowsWritten answers.Finished months = months
+rowsWritten (answers.Refused refusal place) months = place - 1
 
 -- Refused with place 0 where the test is true, with everything as it was; else what the later checks and the months leave.
 abbrev pub listGiven : Bool → ListRefusal → State → List ℕ → Left → Left

@@ -6,7 +6,7 @@ use mathlib.Core.Bool.{Bool, true, false, _||_}
 use mathlib.Core.List.{List, []}
 use Prim.Native.Nat.{ℕ, suc, _+_, _-_, _*_, _≤_, _<_}
 use lib.IntN.{ℤ}
-use Rattle.decay.specs.Decay.{total}
+use Rattle.pools.specs.Pools.{total}
 use Rattle.state.specs.declared.State.{State}
 use Rattle.state.specs.declared.Check.the-variants.{Pass, Refuse}
 use Rattle.state.specs.declared.Refusal.{Refusal}
@@ -15,8 +15,6 @@ use Rattle.state.specs.Refusal.{given, soilCheck, outOfBounds, stateCheck}
 use Rattle.state.proofs.Checks.{sound-state}
 use Rattle.runs.specs.declared.ListRefusal.{ListRefusal}
 use Rattle.runs.specs.declared.ListAnswer.the-variants as answers
-use Rattle.runs.specs.ListCalls.{Ran}
-use Rattle.runs.proofs.ListCalls.{all-ran}
 use Rattle.runs.proofs.Months.{course, place-in, months-sound}
 use Rattle.spinup.specs.declared.SpinRefusal.the-variants.{Rows, Years, Of}
 use Rattle.spinup.specs.declared.SpinAnswer.the-variants.{Settled, Refused}
@@ -38,13 +36,6 @@ most s h = let sound = sound-state s h in record { active = sound .soil .pools; 
 pub year-sound : (weather land : List ℤ) (s : State) → stateCheck s ≡ Pass → stateCheck (yearState weather land s) ≡ Pass
 unfolding yearOutcome
 year-sound weather land s sound = months-sound 12 weather land 0 s [] sound
-
--- A year that is finished is twelve single month calls in turn, with the numbers that come next, all accepted.
-pub year-ran :
-    (weather land : List ℤ) (s : State) → stateCheck s ≡ Pass → yearAnswer weather land s ≡ answers.Finished
-    → Ran weather land 0 s 12 (yearState weather land s)
-unfolding yearOutcome
-year-ran weather land s sound h = all-ran weather land (course weather land 12 0 s []) sound h
 
 -- The place of a year's refusal is one of its twelve months.
 pub year-place :

@@ -1,2 +1,1 @@
 pub mod SpinUp
-pub mod Reached

@@ -5,7 +5,7 @@ use Prim.Native.Nat.{ℕ, zero, suc, _+_, _*_}
 use lib.Dec.{leb, ltb, eqb}
 use lib.IntN.{ℤ}
 use lib.ListN.{length}
-use Rattle.decay.specs.Decay.{total}
+use Rattle.pools.specs.Pools.{total}
 use Rattle.state.specs.declared.State.{State}
 use Rattle.state.specs.declared.Check.{Check}
 use Rattle.state.specs.declared.Check.the-variants.{Pass, Refuse}

@@ -6,16 +6,16 @@ ghost use Rattle.state.specs.declared.Check.the-variants.{Pass};
 ghost use Rattle.state.specs.Refusal.{soilCheck, stateCheck};
 ghost use Rattle.spinup.specs.SpinUp.{spinRefusalNumber, fivePools, settles, spinRefused, yearRefusal, yearOutcome};
 ghost use Rattle.spinup.specs.SpinUp.{years, afterSoil, spinUp};
-use decay::total;
+use checks::check_state;
+use pools::total;
 use runs::ListAnswer;
 use runs::ListOutcome;
 use runs::ListRefusal;
 use runs::run_months;
+use soils::check_soil;
 use state::Check;
 use state::Refusal;
 use state::State;
-use state::check_soil;
-use state::check_state;
 use state::refusal_number;
 
 // Why a spin-up is refused: its rows (3), its years (9), or its state or one of its months.

@@ -1,18 +1,18 @@
 -- A check finds nothing exactly where no refusal applies: the chains of tests of specs/Refusal.antt against the plain
 -- numbers of specs/Accepted.antt.
 -- Assumes nothing.
-use mathlib.Core.Path.{_≡_, refl, sym, subst}
+use mathlib.Core.Path.{_≡_, refl}
 use mathlib.Core.Logic.{_⊎_, inl, inr, ⊎-elim}
 use mathlib.Core.Bool.{Bool, true, false, not, _||_}
-use Prim.Native.Nat.{ℕ, _+_, _*_, _≤_, _<_}
+use Prim.Native.Nat.{ℕ, _+_, _*_, _≤_}
 use native.Mathlib.Omega.{arith}
 use native.Mathlib.Decide.{decLe}
-use borrow.Author.Tests.{ltb-false, leb-false, eqb-true, eqb-false, not-false, le-ltb, lt-leb, eq-eqb, ne-eqb}
+use borrow.Author.Tests.{ltb-false, leb-false, eqb-true, not-false, le-ltb, lt-leb, eq-eqb}
 use lib.Dec.{T, leb, ltb, eqb, leb→le}
 use lib.IntN.{ℤ, pos, negsuc, natAbs}
-use lib.Signed.{ltZ, _≤ℤ_, ltZ-no, ltZ-yes, clashℤ}
+use lib.Signed.{ltZ, ltZ-no, ltZ-yes, clashℤ}
 use Rattle.water.specs.Water.{maxDeficit}
-use Rattle.decay.specs.Decay.{total}
+use Rattle.pools.specs.Pools.{total}
 use Rattle.state.specs.declared.Soil.{Soil}
 use Rattle.state.specs.declared.State.{State}
 use Rattle.state.specs.declared.Entries.{Entries}

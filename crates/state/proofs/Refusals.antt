@@ -10,7 +10,7 @@ use native.Mathlib.Decide.{decLt}
 use lib.Dec.{leb, ltb, eqb, lit<}
 use lib.IntN.{pos, negsuc, natAbs}
 use lib.ListN.{getD}
-use Rattle.decay.specs.Decay.{total}
+use Rattle.pools.specs.Pools.{total}
 use Rattle.state.specs.declared.State.{State}
 use Rattle.state.specs.declared.Entries.{Entries}
 use Rattle.state.specs.declared.Check.{Check}

@@ -5,7 +5,7 @@ use lib.Dec.{leb, ltb, eqb}
 use lib.IntN.{ℤ, pos, negsuc, natAbs}
 use lib.Signed.{ltZ}
 use Rattle.water.specs.Water.{maxDeficit}
-use Rattle.decay.specs.Decay.{total}
+use Rattle.pools.specs.Pools.{total}
 use Rattle.state.specs.declared.Soil.{Soil}
 use Rattle.state.specs.declared.State.{State}
 use Rattle.state.specs.declared.Entries.{Entries}

@@ -3,4 +3,3 @@ pub mod Writing
 pub mod Reading
 pub mod Minus
 pub mod Laws
-pub mod Examples

@@ -1,9 +1,9 @@
-// The numbers of document 01's book on byte slices: read at a place of a text, and written at a place of a lent one.
+// The numbers of document 01's book on byte slices, read at a place of a text; the crate writing writes them.
 // specs/Text.antt says what each function gives.
 ghost use mathlib.Core.Path.{_≡_};
-ghost use Prim.Native.Nat.{_+_, _≤_, _<_};
+ghost use Prim.Native.Nat.{_≤_, _<_};
 ghost use lib.ListN.{length};
-ghost use Rattle.text.specs.Text.{isDigit, byteIs, moreDigits, readValue, readSigned, decimal, overwritten};
+ghost use Rattle.text.specs.Text.{isDigit, byteIs, moreDigits, readValue, readSigned};
 
 // What reading a value finds: the value with the place after it, or no value.
 pub enum Value {
@@ -95,33 +95,4 @@ pub fn read_signed(s: &[u8], at: usize) -> Signed
         return Signed::Malformed;
     };
     Signed::Number(n as i64, next)
-}
-
-// Writes the bytes from a place on, and gives the place after them.
-pub fn write_bytes(out: &mut [u8], at: usize, bytes: &[u8]) -> usize
-    requires { ⌜ at + length (now bytes) ≤ length (now out) ⌝ }
-    ensures place { λ r. ⌜ r ≡ at + length (now (bytes .entry)) ⌝ }
-    ensures written { λ r. ⌜ now (out .exit) ≡ overwritten (now (out .entry)) at (now (bytes .entry)) ⌝ }
-{
-    let mut i = 0;
-    while i < bytes.len() {
-        out[at + i] = bytes[i];
-        i += 1;
-    }
-    at + i
-}
-
-// Writes a number's decimal digits from a place on, and gives the place after them.
-pub fn write_decimal(out: &mut [u8], at: usize, n: u64) -> usize
-    requires { ⌜ at + length (decimal n) ≤ length (now out) ⌝ }
-    ensures place { λ r. ⌜ r ≡ at + length (decimal n) ⌝ }
-    ensures written { λ r. ⌜ now (out .exit) ≡ overwritten (now (out .entry)) at (decimal n) ⌝ }
-{
-    if n < 10 {
-        out[at] = 48 + n as u8;
-        return at + 1;
-    }
-    let last = write_decimal(out, at, n / 10);
-    out[last] = 48 + (n % 10) as u8;
-    last + 1
 }

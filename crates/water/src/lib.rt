@@ -23,7 +23,7 @@ fn bare_limit(m: Parts) -> Parts
 }
 
 // The month's drying: below 0 where the rain outweighs the evaporation.
-pub fn drying(evaporation: u64, rain: u64) -> i64
+fn drying(evaporation: u64, rain: u64) -> i64
     requires { ⌜ (evaporation ≤ 20000) × (rain ≤ 20000) ⌝ }
     ensures { λ r. ⌜ r ≡ drying evaporation rain ⌝ }
 {
@@ -31,7 +31,7 @@ pub fn drying(evaporation: u64, rain: u64) -> i64
 }
 
 // The cap on the deficit after the month, d being the deficit before it.
-pub fn deficit_cap(crop: bool, m: Parts, d: Parts) -> Parts
+fn deficit_cap(crop: bool, m: Parts, d: Parts) -> Parts
     requires { ⌜ m .0 ≤ 560250000 ⌝ }
     ensures { λ r. ⌜ r .0 ≡ deficitCap crop (m .0) (d .0) ⌝ }
 {

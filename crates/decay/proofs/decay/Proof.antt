@@ -3,7 +3,8 @@
 use mathlib.Core.Path.{ap, _∙_}
 use mathlib.Core.List.{List}
 use Rattle.units.specs.declared.Grams.{Grams}
-use Rattle.decay.specs.Decay.{total, carbonDioxide, split}
+use Rattle.pools.specs.Pools.{total}
+use Rattle.decay.specs.Decay.{carbonDioxide, split}
 use Rattle.decay.proofs.Laws.{losses-within, split-losses}
 use Rattle.decay.proofs.decay.Statement.{statement}
 use Rattle.decay.proofs.decay.Tie as tie

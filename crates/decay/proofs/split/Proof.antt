@@ -5,8 +5,10 @@ use Prim.Native.Nat.{ℕ, _≤_}
 use mathlib.Core.Path.{refl, ap, _∙_}
 use native.Mathlib.Omega.{arith}
 use lib.Dec.{lit<}
-use Rattle.decay.specs.Decay.{share, total, formed, toBio, split}
-use Rattle.decay.proofs.Laws.{four-grams, formed-le}
+use Rattle.pools.specs.Pools.{share, total}
+use Rattle.decay.specs.Decay.{formed, toBio, split}
+use Rattle.pools.proofs.Laws.{four-grams}
+use Rattle.decay.proofs.Laws.{formed-le}
 use Rattle.decay.proofs.split.Statement.{statement}
 use Rattle.decay.proofs.split.Tie as tie
 
@@ -82,7 +84,7 @@ returns c =
     let l = g .before .before .total .ensures in
     let f = g .before .formed .ensures ∙ ap (λ (n : ℕ). formed n (g .before .before .before .args .r)) l in
     let b = g .to-bio .ensures ∙ ap toBio f in
-    (four-grams refl refl (omega (arith, b)) (omega (arith, f, b)), omega (arith, f, l))
+    (four-grams refl refl (rw b) (rw (f, b)), rw (f, l))
 
 pub split-spec : {M : Type 1} → statement M
 split-spec =

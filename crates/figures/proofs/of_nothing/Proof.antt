@@ -2,7 +2,7 @@
 -- Assumes nothing.
 use native.Mathlib.Omega.{arith}
 use borrow.Author.Needs.{needs}
-use Rattle.decay.specs.Decay.{total}
+use Rattle.pools.specs.Pools.{total}
 use Rattle.figures.proofs.of_nothing.Statement.{statement}
 use Rattle.figures.proofs.of_nothing.Tie as tie
 

@@ -12,7 +12,9 @@ use Rattle.units.specs.declared.Grams.{Grams}
 use Rattle.units.specs.declared.Parts.{Parts}
 use Rattle.factors.specs.Factors.{clayNumber}
 use Rattle.decay.specs.Rates.{survivals}
-use Rattle.decay.specs.Decay.{grams, total, decayed, added}
+use Rattle.pools.specs.Pools.{grams, total}
+use Rattle.decay.specs.Decay.{decayed}
+use Rattle.additions.specs.Additions.{added}
 use Rattle.state.specs.declared.State.{State}
 use Rattle.state.specs.declared.Entries.{Entries}
 use Rattle.state.specs.declared.Check.the-variants.{Pass}

@@ -19,8 +19,10 @@ use Rattle.month.specs.declared.Outcome.{Outcome}
 use Rattle.month.specs.declared.Answer.the-variants.{Done, Refused}
 use Rattle.runs.specs.declared.ListAnswer.{ListAnswer}
 use Rattle.runs.specs.declared.ListAnswer.the-variants.{Finished}
-use Rattle.runs.specs.Run.{entriesAt, written, answerWith, listMonth, months}
-use Rattle.runs.proofs.Laws.{Leaves, leaves, month-sound, goes-on, stops, written-length}
+use Rattle.rows.specs.Rows.{entriesAt, written, listMonth}
+use Rattle.runs.specs.Run.{answerWith, months}
+use Rattle.rows.proofs.Laws.{month-sound, written-length}
+use Rattle.runs.proofs.Laws.{Leaves, leaves, goes-on, stops}
 use Rattle.runs.proofs.run_months.Statement.{statement}
 use Rattle.runs.proofs.run_months.Tie as tie
 

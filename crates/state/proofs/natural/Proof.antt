@@ -1,4 +1,4 @@
--- `month::natural` meets its contract: the cast of a number that is not below 0 loses nothing.
+-- `state::natural` meets its contract: the cast of a number that is not below 0 loses nothing.
 -- Assumes nothing.
 use mathlib.Core.Path.{ap}
 use lib.IntN.{natAbs}

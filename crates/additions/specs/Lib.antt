@@ -1,0 +1,2 @@
+-- What step 6 of document 01 gives.
+pub mod Additions

@@ -1,0 +1,2 @@
+pub mod ListCalls
+pub mod Rows

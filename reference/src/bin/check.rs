@@ -1,0 +1,254 @@
+//! Asserts the known figures of document 01, the Rothamsted deficit table of 001 and January
+//! 1852 byte by byte; then demand 3 on long lists. Stops at the first that is wrong.
+
+use reference::book;
+use reference::exponential::{
+    allowed, allowed_range, clay_factor, survival_floor, temperature_factor, within, BILLION,
+};
+use reference::fixed::book_fixed;
+use reference::model::{
+    factors, list, moisture_factor, month, split_manure, split_plant, Entries, Nearest, Soil,
+    State, Survival, RATES,
+};
+use reference::recurrence::{
+    carbon_closes, distance_every_q, distance_interval, q_highest, q_lowest, run_calls, Decision,
+};
+use reference::vectors::Draw;
+
+fn main() {
+    known_figures();
+    rothamsted_deficits();
+    january_1852();
+    ceiling();
+    survival_numbers();
+    demand_three();
+    println!("all figures hold");
+}
+
+fn rothamsted() -> Soil {
+    Soil {
+        clay: 234,
+        depth: 23,
+        kind: 1,
+        pools: [153_300, 4_485_200, 667_100, 25_857_600],
+        inert: 2_700_000,
+    }
+}
+
+fn known_figures() {
+    for (t, a) in [
+        (-51, 0),
+        (-50, 162),
+        (34, 3561),
+        (93, 10_013),
+        (500, 83_639),
+    ] {
+        assert_eq!(temperature_factor(t), a, "A at T {t}");
+    }
+    for (c, r) in [(0, 147_896), (234, 221_524), (1000, 244_467)] {
+        assert_eq!(clay_factor(c), r, "R at C {c}");
+    }
+    let soil = rothamsted();
+    assert_eq!(moisture_factor(&soil, 27 * 2_070_000 + 1_035_000), 7_585);
+    assert_eq!(moisture_factor(&soil, soil.deficit_limit()), 2_000);
+    assert_eq!(split_plant(1, 61), (36, 25));
+    assert_eq!(split_manure(99), (48, 50, 1));
+    // The combined rate factor of January 1852 in 001: 0.3561.
+    let january = Entries {
+        temperature: 34,
+        rain: 740,
+        evaporation: 80,
+        cover: 0,
+        plant: 0,
+        manure: 0,
+    };
+    assert_eq!(factors(&soil, 0, &january).n, 356_100_000);
+    println!("known figures: A, R, B, plant, manure");
+}
+
+/// 001: rain and evaporation in mm, and the accumulated deficit in hundredths of a mm.
+fn rothamsted_deficits() {
+    let table = [
+        (74, 8, 0),
+        (59, 10, 0),
+        (62, 27, 0),
+        (51, 49, 0),
+        (52, 83, 1025),
+        (57, 99, 2750),
+        (34, 103, 4494),
+        (55, 91, 4494),
+        (58, 69, 3869),
+        (56, 34, 819),
+        (75, 16, 0),
+        (71, 8, 0),
+    ];
+    let mut weather = Vec::new();
+    let mut land = Vec::new();
+    for (rain, evaporation, _) in table {
+        weather.extend([93, rain * 10, evaporation * 10]);
+        land.extend([1, 0, 0]);
+    }
+    let mut output = [0; 84];
+    let (_, answer) = list(
+        &State::new(rothamsted()),
+        &weather,
+        &land,
+        &mut output,
+        &mut Nearest,
+    );
+    assert_eq!(answer, Ok(()));
+    for (index, (_, _, hundredths)) in table.iter().enumerate() {
+        let parts = output[index * 7 + 6];
+        assert_eq!(
+            (parts * 100 + 1_035_000) / 2_070_000,
+            *hundredths,
+            "month {}",
+            index + 1
+        );
+    }
+    println!("Rothamsted deficit table: 12 months");
+}
+
+fn january_1852() {
+    let book = b"SOIL 1\n234 23 1 153300 4485200 667100 25857600 2700000\nWEATHER 1\n34 740 80\nLAND 1\n0 0 0\n";
+    let wanted =
+        b"POOLS 1\n1 113937 4445447 665104 25855106 2700000 83606 0\nTOTAL 33779594 83606\n";
+    let (answer, fixed) = book_fixed(book);
+    assert_eq!(book::write(&answer), wanted);
+    assert!(fixed, "January 1852 is the same for every allowed S");
+    // Every allowed choice of S, pool by pool: 6 to the power of 4.
+    let n = 356_100_000;
+    let ranges = RATES.map(|k| allowed_range(n, k));
+    let mut choices = 0;
+    for a in ranges[0].0..=ranges[0].1 {
+        for b in ranges[1].0..=ranges[1].1 {
+            for c in ranges[2].0..=ranges[2].1 {
+                for d in ranges[3].0..=ranges[3].1 {
+                    let mut survival = |_: u64, k: u64| {
+                        [a, b, c, d][RATES.iter().position(|rate| *rate == k).unwrap()]
+                    };
+                    assert_eq!(book::run(book, &mut survival), wanted);
+                    choices += 1;
+                }
+            }
+        }
+    }
+    assert_eq!(choices, 6 * 6 * 6 * 6);
+    println!("January 1852: byte by byte, {choices} choices of S");
+}
+
+fn ceiling() {
+    let full = State::new(Soil {
+        pools: [1_000_000_000, 0, 0, 0],
+        ..rothamsted()
+    });
+    let entries = Entries {
+        temperature: 34,
+        rain: 740,
+        evaporation: 80,
+        cover: 0,
+        plant: 0,
+        manure: 0,
+    };
+    assert!(month(&full, 1, &entries, &mut Nearest).1.is_ok());
+    let one = Entries {
+        plant: 1,
+        ..entries
+    };
+    assert_eq!(
+        month(&full, 1, &one, &mut Nearest)
+            .1
+            .unwrap_err()
+            .cause
+            .number(),
+        17
+    );
+    println!("active 1,000,000,000 runs, one gram added is 17");
+}
+
+/// 500,000 survival tests on numbers that a month can meet.
+fn survival_numbers() {
+    let mut draw = Draw::new(4);
+    for round in 0..500_000u64 {
+        let a = temperature_factor(draw.between(-50, 500));
+        let n = a * draw.between(2_000, 10_000) as u64 * if draw.below(2) == 0 { 6 } else { 10 };
+        let k = RATES[(round % 4) as usize];
+        let floor = survival_floor(n, k);
+        let s = (floor + draw.below(10)).saturating_sub(4);
+        let near = s as i128 - floor as i128;
+        assert_eq!(allowed(s, n, k), (-2..=3).contains(&near) && s <= BILLION);
+        if round % 16 == 0 {
+            assert_eq!(within(s, n, k, 1), (0..=1).contains(&near) && s <= BILLION);
+            assert_eq!(within(s, n, k, 2), (-1..=2).contains(&near) && s <= BILLION);
+        }
+    }
+    println!("survival: 500,000 numbers tested");
+}
+
+/// Demand 3 on lists of 120,000 accepted months with refused calls among them.
+fn demand_three() {
+    let mut lowest = |n: u64, k: u64| allowed_range(n, k).0;
+    let mut highest = |n: u64, k: u64| allowed_range(n, k).1;
+    let survivals: [(&str, &mut dyn Survival); 3] = [
+        ("nearest S", &mut Nearest),
+        ("lowest S", &mut lowest),
+        ("highest S", &mut highest),
+    ];
+    let mut draw = Draw::new(1852);
+    for (name, survival) in survivals {
+        let soil = Soil {
+            pools: [100_000_000, 200_000_000, 50_000_000, 600_000_000],
+            ..rothamsted()
+        };
+        let mut calls = Vec::new();
+        let mut number = 0;
+        while number < 120_000 {
+            let mut entries = Entries {
+                temperature: draw.between(-80, 250),
+                rain: draw.between(0, 1200),
+                evaporation: draw.between(0, 1500),
+                cover: draw.between(0, 1),
+                plant: draw.between(0, 1_000_000),
+                manure: draw.between(0, 300_000),
+            };
+            match draw.below(20) {
+                0 => calls.push((number + 2, entries)),
+                1 => {
+                    entries.cover = 2;
+                    calls.push((number + 1, entries));
+                }
+                _ => {
+                    number += 1;
+                    calls.push((number, entries));
+                }
+            }
+        }
+        let (answered, last) = run_calls(&soil, &calls, survival);
+        assert_eq!(last.months, 120_000);
+        assert!(carbon_closes(&soil, &answered, &last), "(a) with {name}");
+        assert_eq!(
+            distance_every_q(&soil, &answered, &last, survival),
+            Decision::Holds,
+            "(b) with {name}"
+        );
+        let mut own = |_: u64, _: usize, s: u64| s;
+        assert_eq!(
+            distance_interval(&soil, &answered, &last, survival, &mut own),
+            Decision::Holds
+        );
+        let mut low = |_: u64, _: usize, s: u64| q_lowest(s);
+        assert_eq!(
+            distance_interval(&soil, &answered, &last, survival, &mut low),
+            Decision::Holds
+        );
+        let mut high = |_: u64, _: usize, s: u64| q_highest(s);
+        assert_eq!(
+            distance_interval(&soil, &answered, &last, survival, &mut high),
+            Decision::Holds
+        );
+        println!(
+            "demand 3 with {name}: {} calls, 120,000 accepted",
+            calls.len()
+        );
+    }
+}

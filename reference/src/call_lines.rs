@@ -1,0 +1,1578 @@
+//! Test lines over numbers: calls in groups, each with the answer that the specification asks.
+//! Made the same way each time. A comment on each group says what it shows. Every answer is
+//! fixed: no allowed S changes it. Every refusal is stated here by hand and held against the
+//! reference.
+
+use crate::calls::{
+    entries_of, soil_of, state_of, Call, EntryNumbers, SoilNumbers, StateNumbers, CLAY, CO2, COVER,
+    DEFICIT, DEPTH, EVAPORATION, INERT, KIND, MANURE, MONTHS, PLANT, POOLS, RAIN, SOIL_NUMBERS,
+    TEMPERATURE,
+};
+use crate::exponential::{allowed_range, survival_nearest, BILLION};
+use crate::model::{factors, kept, RATES};
+use crate::vectors::Draw;
+
+/// A call with the numbers of its answer.
+#[derive(Clone, Debug)]
+pub struct Line {
+    pub call: Call,
+    pub answer: Vec<u64>,
+}
+
+/// Lines that show one thing.
+#[derive(Clone, Debug)]
+pub struct Group {
+    pub shows: &'static str,
+    pub lines: Vec<Line>,
+}
+
+struct Sheet {
+    groups: Vec<Group>,
+}
+
+impl Sheet {
+    fn group(&mut self, shows: &'static str) {
+        self.groups.push(Group {
+            shows,
+            lines: Vec::new(),
+        });
+    }
+
+    fn put(&mut self, call: Call, answer: Vec<u64>) {
+        let group = self.groups.last_mut().expect("a group");
+        group.lines.push(Line { call, answer });
+    }
+
+    /// A call that nothing refuses.
+    fn runs(&mut self, call: Call) {
+        let (answer, fixed) = call.fixed_answer();
+        assert!(answer[0] == 0, "refused {}: {}", answer[0], call.line());
+        assert!(fixed, "not fixed: {}", call.line());
+        self.put(call, answer);
+    }
+
+    /// The same if it is fixed; says whether it was.
+    fn runs_if_fixed(&mut self, call: Call) -> bool {
+        let (answer, fixed) = call.fixed_answer();
+        let good = fixed && answer[0] == 0;
+        if good {
+            self.put(call, answer);
+        }
+        good
+    }
+
+    /// A call that is refused with this number.
+    fn refused(&mut self, number: u64, call: Call) {
+        let (answer, fixed) = call.fixed_answer();
+        assert!(
+            answer[0] == number,
+            "{number} wanted, {} given: {}",
+            answer[0],
+            call.line()
+        );
+        assert!(fixed, "not fixed: {}", call.line());
+        self.put(call, answer);
+    }
+
+    /// A list or spin-up that is refused with this number at this place.
+    fn refused_at(&mut self, number: u64, place: u64, call: Call) {
+        self.refused(number, call.clone());
+        let answer = &self.groups.last().unwrap().lines.last().unwrap().answer;
+        let given = match call {
+            Call::List { .. } => answer[1],
+            _ => answer[2],
+        };
+        assert_eq!(given, place, "{}", call.line());
+    }
+
+    /// A call whose number is stated: 0 for one that runs.
+    fn either(&mut self, number: u64, call: Call) {
+        if number == 0 {
+            self.runs(call);
+        } else {
+            self.refused(number, call);
+        }
+    }
+}
+
+/// All groups, in order.
+pub fn groups() -> Vec<Group> {
+    let mut sheet = Sheet { groups: Vec::new() };
+    new_bounds(&mut sheet);
+    new_sums(&mut sheet);
+    new_order(&mut sheet);
+    new_drawn(&mut sheet);
+    month_known(&mut sheet);
+    month_soil(&mut sheet);
+    month_state(&mut sheet);
+    month_turn(&mut sheet);
+    month_entries(&mut sheet);
+    month_ceiling(&mut sheet);
+    month_pairs(&mut sheet);
+    month_unreached(&mut sheet);
+    month_water(&mut sheet);
+    month_shares(&mut sheet);
+    month_factors(&mut sheet);
+    list_rows(&mut sheet);
+    list_output(&mut sheet);
+    list_outside(&mut sheet);
+    list_months(&mut sheet);
+    list_weather(&mut sheet);
+    list_drawn(&mut sheet);
+    spin_outside(&mut sheet);
+    spin_years(&mut sheet);
+    spin_places(&mut sheet);
+    spin_drawn(&mut sheet);
+    survival_numbers(&mut sheet);
+    survival_ends(&mut sheet);
+    sheet.groups
+}
+
+/// Ends of the types, and numbers that look small when cut to 32 or 16 bits.
+const ENDS: [u64; 8] = [
+    u64::MAX,
+    u64::MAX - 1,
+    1 << 63,
+    (1 << 63) - 1,
+    1 << 32,
+    (1 << 32) + 1,
+    (1 << 48) + 2,
+    1 << 62,
+];
+const SIGNED_ENDS: [i64; 9] = [
+    i64::MIN,
+    i64::MIN + 1,
+    i64::MAX,
+    i64::MAX - 1,
+    1 << 32,
+    (1 << 32) + 1,
+    -(1 << 32),
+    1 << 62,
+    -(1 << 62),
+];
+
+/// A soil that nothing refuses, with small pools.
+const SOIL: SoilNumbers = [234, 23, 1, 1_533, 44_852, 6_671, 258_576, 27_000];
+/// A state that nothing refuses: ten months done.
+const STATE: StateNumbers = [
+    234, 23, 1, 1_533, 44_852, 6_671, 258_576, 27_000, 5_000_000, 10, 12_345,
+];
+/// Frost: nothing decays, so any pools are fixed.
+const FROST: EntryNumbers = [-60, 500, 300, 0, 61, 99];
+const MILD: EntryNumbers = [93, 520, 830, 1, 610, 990];
+
+const CEILING: u64 = 1_000_000_000;
+const A_MONTH: u64 = 200_000_000;
+
+fn changed<const N: usize, T: Copy>(mut numbers: [T; N], changes: &[(usize, T)]) -> [T; N] {
+    for (place, number) in changes {
+        numbers[*place] = *number;
+    }
+    numbers
+}
+
+fn new(changes: &[(usize, u64)]) -> Call {
+    Call::New {
+        soil: changed(SOIL, changes),
+    }
+}
+
+fn pools(pools: [u64; 4]) -> [(usize, u64); 4] {
+    std::array::from_fn(|pool| (POOLS + pool, pools[pool]))
+}
+
+/// M of step 3.
+fn deficit_limit(state: &[u64]) -> u64 {
+    soil_of(state).deficit_limit() as u64
+}
+
+// ---- N: a soil's new state ----
+
+/// 4, 5, 6 and IOM's 7 from both sides of every bound, and at the ends of the type.
+fn new_bounds(sheet: &mut Sheet) {
+    sheet.group("N: clay, depth, kind and IOM on both sides of every bound, ends of u64");
+    let bounds: [(usize, u64, &[u64], &[u64]); 4] = [
+        (CLAY, 4, &[0, 1, 999, 1000], &[1001, 1002]),
+        (DEPTH, 5, &[1, 2, 99, 100], &[0, 101]),
+        (KIND, 6, &[1, 2, 3], &[0, 4]),
+        (INERT, 7, &[0, 999_999_999, CEILING], &[CEILING + 1]),
+    ];
+    for (place, number, good, bad) in bounds {
+        for value in good {
+            sheet.runs(new(&[(place, *value)]));
+        }
+        for value in bad.iter().chain(&ENDS) {
+            sheet.refused(number, new(&[(place, *value)]));
+        }
+    }
+}
+
+/// 7: the active pools together at the ceiling and one gram above it, in every pool and pair of
+/// pools; sums that wrap in 64 bits to something small.
+fn new_sums(sheet: &mut Sheet) {
+    sheet.group("N: active pools at the ceiling and one gram above it, sums that would wrap");
+    for one in 0..4 {
+        let mut alone = [0; 4];
+        alone[one] = CEILING;
+        sheet.runs(new(&pools(alone)));
+        alone[one] += 1;
+        sheet.refused(7, new(&pools(alone)));
+        for end in [u64::MAX, 1 << 63, 1 << 32] {
+            alone[one] = end;
+            sheet.refused(7, new(&pools(alone)));
+        }
+        for two in one + 1..4 {
+            let pair = |first: u64, second: u64| {
+                let mut pair = [0; 4];
+                (pair[one], pair[two]) = (first, second);
+                new(&pools(pair))
+            };
+            sheet.runs(pair(1, CEILING - 1));
+            sheet.refused(7, pair(1, CEILING));
+            sheet.refused(7, pair(CEILING, CEILING));
+            // These wrap to 0, to 0 and to the ceiling.
+            sheet.refused(7, pair(u64::MAX, 1));
+            sheet.refused(7, pair(1 << 63, 1 << 63));
+            sheet.refused(7, pair(u64::MAX - 999, CEILING + 1000));
+        }
+    }
+    let quarter = CEILING / 4;
+    sheet.runs(new(&pools([quarter; 4])));
+    for one in 0..4 {
+        let mut over = [quarter; 4];
+        over[one] += 1;
+        sheet.refused(7, new(&pools(over)));
+    }
+    sheet.refused(7, new(&pools([1 << 62; 4])));
+    sheet.refused(7, new(&pools([u64::MAX; 4])));
+    sheet.refused(7, new(&pools([u64::MAX, 1, u64::MAX, 1])));
+    // IOM isn't among the active pools: both may stand at the ceiling.
+    let full = pools([400_000_000, 300_000_000, 200_000_000, 100_000_000]);
+    sheet.runs(new(&[&full[..], &[(INERT, CEILING)]].concat()));
+    sheet.refused(7, new(&[&full[..], &[(INERT, CEILING + 1)]].concat()));
+    // Active pools and IOM that wrap to 0 together.
+    sheet.refused(7, new(&[(POOLS, 1), (INERT, u64::MAX)]));
+}
+
+/// Two and more faults of 4 to 7 at once: the lowest wins.
+fn new_order(sheet: &mut Sheet) {
+    sheet.group("N: two and more faults of 4 to 7 at once, the lowest wins");
+    let faults: [(u64, [(usize, u64); 2]); 4] = [
+        (4, [(CLAY, 1001), (CLAY, u64::MAX)]),
+        (5, [(DEPTH, 0), (DEPTH, u64::MAX)]),
+        (6, [(KIND, 4), (KIND, 0)]),
+        (7, [(POOLS + 3, CEILING + 1), (INERT, u64::MAX)]),
+    ];
+    for lower in 0..4 {
+        for higher in lower + 1..4 {
+            for way in 0..2 {
+                let both = [faults[lower].1[way], faults[higher].1[way]];
+                sheet.refused(faults[lower].0, new(&both));
+            }
+        }
+        let rest: Vec<(usize, u64)> = faults[lower..].iter().map(|fault| fault.1[1]).collect();
+        sheet.refused(faults[lower].0, new(&rest));
+    }
+}
+
+/// Soils within the bounds: the state is the soil and three zeros.
+fn new_drawn(sheet: &mut Sheet) {
+    sheet.group("N: drawn soils that nothing refuses");
+    let mut draw = Draw::new(41);
+    for _ in 0..20 {
+        let soil = [
+            draw.below(1001),
+            1 + draw.below(100),
+            1 + draw.below(3),
+            draw.below(250_000_001),
+            draw.below(250_000_001),
+            draw.below(250_000_001),
+            draw.below(250_000_001),
+            draw.below(CEILING + 1),
+        ];
+        sheet.runs(Call::New { soil });
+    }
+}
+
+// ---- M: a single month call ----
+
+fn month(state: StateNumbers, number: u64, entries: EntryNumbers) -> Call {
+    Call::Month {
+        state,
+        number,
+        entries,
+    }
+}
+
+/// The base month with changes of its state, in frost; its number is the next one.
+fn frozen(changes: &[(usize, u64)]) -> Call {
+    let state = changed(STATE, changes);
+    month(state, state[MONTHS].wrapping_add(1), FROST)
+}
+
+/// The base month with changes of its entries, in frost unless they say another temperature.
+fn entered(changes: &[(usize, i64)]) -> Call {
+    month(STATE, 11, changed(FROST, changes))
+}
+
+/// The known figures that a month can show.
+fn month_known(sheet: &mut Sheet) {
+    sheet.group("M: January 1852 and the other known figures of document 01");
+    let hoosfield = [
+        234, 23, 1, 153_300, 4_485_200, 667_100, 25_857_600, 2_700_000, 0, 0, 0,
+    ];
+    let january = month(hoosfield, 1, [34, 740, 80, 0, 0, 0]);
+    sheet.runs(january);
+    assert_eq!(
+        sheet.groups.last().unwrap().lines[0].answer[..8],
+        [0, 113_937, 4_445_447, 665_104, 25_855_106, 2_700_000, 83_606, 0]
+    );
+    let empty = changed(hoosfield, &pools([0; 4]));
+    // 61 g of plant: 36 and 25. 99 g of manure: 48, 50 and 1.
+    sheet.runs(month(empty, 1, [93, 740, 80, 0, 61, 0]));
+    sheet.runs(month(empty, 1, [93, 740, 80, 0, 0, 99]));
+    // 27.50 mm and M: B 7585 and 2000 (the pools show B).
+    let some = pools([100_000_003, 90_000_007, 80_000_000, 70_000_001]);
+    for deficit in [56_925_000, deficit_limit(&hoosfield)] {
+        let state = changed(changed(hoosfield, &some), &[(DEFICIT, deficit)]);
+        sheet.runs(fixed_pools(month(state, 1, [93, 0, 0, 1, 0, 0])));
+    }
+    // Active 1,000,000,000 with no additions runs; one gram added is 17.
+    let full = changed(hoosfield, &pools([CEILING, 0, 0, 0]));
+    sheet.runs(month(full, 1, [-51, 740, 80, 0, 0, 0]));
+    sheet.refused(17, month(full, 1, [34, 740, 80, 0, 1, 0]));
+    sheet.refused(17, month(full, 1, [34, 740, 80, 0, 0, 1]));
+}
+
+/// 4 to 7 of the soil inside a lent state.
+fn month_soil(sheet: &mut Sheet) {
+    sheet.group("M: 4 to 7 in a lent state, both sides of every bound, ends of u64, wrapping sums");
+    // A deficit of 0 is right for every clay and depth.
+    let bounds: [(usize, u64, &[u64], &[u64]); 4] = [
+        (CLAY, 4, &[0, 1, 999, 1000], &[1001]),
+        (DEPTH, 5, &[1, 2, 99, 100], &[0, 101]),
+        (KIND, 6, &[1, 2, 3], &[0, 4]),
+        (INERT, 7, &[0, CEILING], &[CEILING + 1]),
+    ];
+    for (place, number, good, bad) in bounds {
+        for value in good {
+            sheet.runs(frozen(&[(place, *value), (DEFICIT, 0)]));
+        }
+        for value in bad.iter().chain(&ENDS[..5]) {
+            sheet.refused(number, frozen(&[(place, *value), (DEFICIT, 0)]));
+        }
+    }
+    for one in 0..4 {
+        let mut alone = [0; 4];
+        alone[one] = CEILING - 160;
+        sheet.runs(frozen(&pools(alone)));
+        for over in [CEILING + 1, u64::MAX, 1 << 63] {
+            alone[one] = over;
+            sheet.refused(7, frozen(&pools(alone)));
+        }
+        // Wraps to 0 with its neighbour.
+        alone[one] = u64::MAX;
+        alone[(one + 1) % 4] = 1;
+        sheet.refused(7, frozen(&pools(alone)));
+    }
+    sheet.refused(7, frozen(&pools([1 << 62; 4])));
+    sheet.refused(7, frozen(&pools([u64::MAX; 4])));
+}
+
+/// 10: D at M and above, months at 120,000 and above, CO2 and active pools at their bound.
+fn month_state(sheet: &mut Sheet) {
+    sheet.group("M: 10 on both sides: D, months, CO2 with active pools; sums that would wrap");
+    for (clay, depth) in [(0, 1), (1000, 100), (234, 23), (650, 100), (1, 1)] {
+        let base = [(CLAY, clay), (DEPTH, depth)];
+        let limit = deficit_limit(&changed(STATE, &base));
+        for (deficit, number) in [
+            (0, 0),
+            (limit - 1, 0),
+            (limit, 0),
+            (limit + 1, 10),
+            (u64::MAX, 10),
+            (1 << 63, 10),
+        ] {
+            sheet.either(number, frozen(&[base[0], base[1], (DEFICIT, deficit)]));
+        }
+    }
+    sheet.runs(frozen(&[(MONTHS, 119_999)]));
+    sheet.refused(12, frozen(&[(MONTHS, 120_000)]));
+    for months in [120_001, u64::MAX, u64::MAX - 1, 1 << 63, 1 << 32] {
+        sheet.refused(10, frozen(&[(MONTHS, months)]));
+    }
+    // 92,233,720,369 × 200,000,000 wraps in 64 bits; the months are too many before that.
+    sheet.refused(10, frozen(&[(MONTHS, 92_233_720_369)]));
+    let active = 1_533 + 44_852 + 6_671 + 258_576;
+    for months in [0, 1, 10, 59_999, 119_999] {
+        let bound = CEILING + A_MONTH * months;
+        let at = |co2: u64| frozen(&[(MONTHS, months), (CO2, co2)]);
+        sheet.runs(at(bound - active - 1));
+        sheet.runs(at(bound - active));
+        sheet.refused(10, at(bound - active + 1));
+        sheet.refused(10, at(bound));
+    }
+    // At 120,000 months the bound still decides between 10 and 12.
+    let bound = CEILING + A_MONTH * 120_000;
+    let at = |co2: u64| frozen(&[(MONTHS, 120_000), (CO2, co2)]);
+    sheet.refused(12, at(bound - active));
+    sheet.refused(10, at(bound - active + 1));
+    // CO2 that wraps with the active pools to 0 and to 1, and beside that.
+    for co2 in [
+        u64::MAX,
+        u64::MAX - active + 1,
+        u64::MAX - active + 2,
+        u64::MAX - active,
+        1 << 63,
+    ] {
+        sheet.refused(10, frozen(&[(CO2, co2)]));
+    }
+    // Pools at the ceiling, CO2 at what is left.
+    let full = pools([CEILING, 0, 0, 0]);
+    // Wraps to 999,999,999.
+    sheet.refused(
+        10,
+        frozen(&[full[0], full[1], full[2], full[3], (CO2, u64::MAX)]),
+    );
+    let still = [-60, 0, 0, 0, 0, 0];
+    for (months, co2, number) in [
+        (0, 0, 0),
+        (0, 1, 10),
+        (3, 3 * A_MONTH, 0),
+        (3, 3 * A_MONTH + 1, 10),
+    ] {
+        let state = changed(changed(STATE, &full), &[(MONTHS, months), (CO2, co2)]);
+        sheet.either(number, month(state, months + 1, still));
+    }
+}
+
+/// 11 and 12: the month's number against the months done.
+fn month_turn(sheet: &mut Sheet) {
+    sheet.group("M: 11 and 12: numbers beside the next one, 120,000 months done");
+    for (months, number, refusal) in [
+        (0, 1, 0),
+        (0, 0, 11),
+        (0, 2, 11),
+        (0, u64::MAX, 11),
+        (1, 1, 11),
+        (1, 2, 0),
+        (1, 3, 11),
+        (10, 0, 11),
+        (10, 1, 11),
+        (10, 10, 11),
+        (10, 11, 0),
+        (10, 12, 11),
+        (10, u64::MAX, 11),
+        (10, u64::MAX - 10, 11),
+        (10, (1 << 32) + 11, 11),
+        (10, (1 << 63) + 11, 11),
+        (119_999, 119_999, 11),
+        (119_999, 120_000, 0),
+        (119_999, 120_001, 11),
+        (120_000, 120_001, 12),
+        (120_000, 120_000, 11),
+        (120_000, 120_002, 11),
+        (120_000, 0, 11),
+        (120_000, 1, 11),
+        (120_000, u64::MAX, 11),
+        (120_001, 120_002, 10),
+        (120_001, 120_001, 10),
+        (u64::MAX, 0, 10),
+        (u64::MAX, u64::MAX, 10),
+    ] {
+        let state = changed(STATE, &[(MONTHS, months)]);
+        sheet.either(refusal, month(state, number, FROST));
+    }
+}
+
+/// 13 to 16 from both sides of each bound, and at the ends of i64.
+fn month_entries(sheet: &mut Sheet) {
+    sheet.group("M: 13 to 16 on both sides of each bound, ends of i64");
+    let bounds: [(usize, u64, &[i64], &[i64]); 6] = [
+        (
+            TEMPERATURE,
+            13,
+            &[-400, -399, -52, -51, -50, -49, 0, 499, 500],
+            &[-401, 501, -402, 502],
+        ),
+        (RAIN, 14, &[0, 1, 19_999, 20_000], &[-1, 20_001]),
+        (EVAPORATION, 14, &[0, 1, 19_999, 20_000], &[-1, 20_001]),
+        (COVER, 15, &[0, 1], &[-1, 2, 3, 10]),
+        (
+            PLANT,
+            16,
+            &[0, 1, 99_999_999, 100_000_000],
+            &[-1, 100_000_001],
+        ),
+        (
+            MANURE,
+            16,
+            &[0, 1, 99_999_999, 100_000_000],
+            &[-1, 100_000_001],
+        ),
+    ];
+    for (place, number, good, bad) in bounds {
+        for value in good {
+            sheet.runs(entered(&[(place, *value)]));
+        }
+        for value in bad.iter().chain(&SIGNED_ENDS) {
+            sheet.refused(number, entered(&[(place, *value)]));
+        }
+    }
+    // Both of a pair faulty, or one of each; sums that wrap to something in range.
+    let pairs: [(u64, usize, usize, [(i64, i64); 5]); 2] = [
+        (
+            14,
+            RAIN,
+            EVAPORATION,
+            [
+                (-1, -1),
+                (20_001, 20_001),
+                (-1, 20_001),
+                (i64::MAX, i64::MIN),
+                (i64::MIN, i64::MAX),
+            ],
+        ),
+        (
+            16,
+            PLANT,
+            MANURE,
+            [
+                (-1, 1),
+                (1, -1),
+                (i64::MAX, i64::MAX),
+                (i64::MIN, i64::MIN),
+                (i64::MAX, i64::MIN),
+            ],
+        ),
+    ];
+    for (number, one, two, values) in pairs {
+        for (first, second) in values {
+            sheet.refused(number, entered(&[(one, first), (two, second)]));
+        }
+    }
+    sheet.runs(entered(&[(RAIN, 20_000), (EVAPORATION, 20_000)]));
+    sheet.runs(entered(&[(PLANT, 100_000_000), (MANURE, 100_000_000)]));
+}
+
+/// 17: active pools before the month, plus plant and manure, at the ceiling and above.
+fn month_ceiling(sheet: &mut Sheet) {
+    sheet.group("M: 17 on both sides, by plant, by manure, by both; decay doesn't make room");
+    for (active, plant, manure) in [
+        (CEILING, 0, 0),
+        (CEILING - 1, 1, 0),
+        (CEILING - 1, 0, 1),
+        (CEILING - 100_000_000, 100_000_000, 0),
+        (CEILING - 100_000_000, 0, 100_000_000),
+        (CEILING - A_MONTH, 100_000_000, 100_000_000),
+        (CEILING - 30, 10, 20),
+    ] {
+        for spread in 0..2 {
+            let grams = if spread == 0 {
+                [active, 0, 0, 0]
+            } else {
+                [
+                    active / 5,
+                    active / 3,
+                    active / 7,
+                    active - active / 5 - active / 3 - active / 7,
+                ]
+            };
+            let state = changed(STATE, &pools(grams));
+            let with = |temperature: i64, plant: i64, manure: i64| {
+                month(state, 11, [temperature, 500, 300, 1, plant, manure])
+            };
+            sheet.runs(with(-60, plant, manure));
+            // One gram more of one of them, in frost and in a heat that would make room.
+            for temperature in [-60, 500] {
+                if plant < 100_000_000 {
+                    sheet.refused(17, with(temperature, plant + 1, manure));
+                }
+                if manure < 100_000_000 {
+                    sheet.refused(17, with(temperature, plant, manure + 1));
+                }
+            }
+            // One gram more in the soil.
+            if active < CEILING {
+                let more = changed(state, &[(POOLS + 2, state[POOLS + 2] + 1)]);
+                sheet.refused(17, month(more, 11, [500, 500, 300, 1, plant, manure]));
+            }
+        }
+    }
+    // IOM doesn't count.
+    sheet.runs(frozen(&[
+        (INERT, CEILING),
+        (POOLS, CEILING - 44_852 - 6_671 - 258_576 - 160),
+    ]));
+}
+
+/// Numbers of a month's refusals in checking order.
+const MONTH_REFUSALS: [u64; 12] = [4, 5, 6, 7, 10, 11, 12, 13, 14, 15, 16, 17];
+
+/// The base month with all these faults at once, each in the given one of three ways.
+fn faulty(faults: &[u64], way: usize) -> Call {
+    let mut state = STATE;
+    let mut number = 11;
+    let mut entries = MILD;
+    let with = |number: u64| faults.contains(&number);
+    if with(17) {
+        state = changed(state, &pools([CEILING, 0, 0, 0]));
+        state[CO2] = 0;
+        (entries[PLANT], entries[MANURE]) = (100_000_000, 100_000_000);
+    }
+    if with(12) {
+        (state[MONTHS], number) = (120_000, 120_001);
+    }
+    if with(4) {
+        state[CLAY] = [1001, 1 << 32, u64::MAX][way];
+    }
+    if with(5) {
+        state[DEPTH] = [0, 101, u64::MAX][way];
+    }
+    if with(6) {
+        state[KIND] = [0, 4, u64::MAX][way];
+    }
+    if with(7) {
+        match way {
+            0 => state[POOLS + 1] = CEILING + 1,
+            1 => state[INERT] = CEILING + 1,
+            _ => (state[POOLS], state[POOLS + 3]) = (u64::MAX, 1),
+        }
+    }
+    if with(10) {
+        match way {
+            0 if with(4) || with(5) => state[DEFICIT] = u64::MAX,
+            0 => state[DEFICIT] = deficit_limit(&state) + 1,
+            1 if with(12) => state[CO2] = u64::MAX,
+            1 => (state[MONTHS], number) = (120_001, 120_002),
+            _ => state[CO2] = CEILING + A_MONTH * state[MONTHS] + 1,
+        }
+    }
+    if with(11) {
+        number = [number - 1, number + 1, u64::MAX][way];
+    }
+    if with(13) {
+        entries[TEMPERATURE] = [-401, 501, i64::MIN][way];
+    }
+    if with(14) {
+        match way {
+            0 => entries[RAIN] = -1,
+            1 => entries[EVAPORATION] = 20_001,
+            _ => entries[RAIN] = i64::MAX,
+        }
+    }
+    if with(15) {
+        entries[COVER] = [-1, 2, i64::MAX][way];
+    }
+    if with(16) {
+        match way {
+            0 => entries[PLANT] = -1,
+            1 => entries[MANURE] = 100_000_001,
+            _ => (entries[PLANT], entries[MANURE]) = (i64::MAX, i64::MAX),
+        }
+    }
+    month(state, number, entries)
+}
+
+/// Two faults at once, in every pair of numbers (the neighbours among them): the lower wins.
+/// Then every fault from one number up at once.
+fn month_pairs(sheet: &mut Sheet) {
+    sheet.group(
+        "M: two faults at once in every pair of numbers, each in three ways; the lower wins",
+    );
+    for (index, lower) in MONTH_REFUSALS.iter().enumerate() {
+        for higher in &MONTH_REFUSALS[index + 1..] {
+            for way in 0..3 {
+                sheet.refused(*lower, faulty(&[*lower, *higher], way));
+            }
+        }
+    }
+    sheet.group("M: all faults from a number up at once; each alone");
+    for (index, lower) in MONTH_REFUSALS.iter().enumerate() {
+        for way in 0..3 {
+            sheet.refused(*lower, faulty(&MONTH_REFUSALS[index..], way));
+            sheet.refused(*lower, faulty(&[*lower], way));
+        }
+    }
+}
+
+/// States that no run reaches run all the same: D at M on bare soil, CO2 at its bound with pools
+/// that decay, 119,999 months with next to no CO2, new months with a deficit.
+fn month_unreached(sheet: &mut Sheet) {
+    sheet.group("M: states that no run reaches: D up to M, CO2 at its bound, many months");
+    let mut draw = Draw::new(43);
+    for round in 0..60 {
+        let mut state = STATE;
+        state[CLAY] = draw.below(1001);
+        state[DEPTH] = 1 + draw.below(100);
+        state[KIND] = 1 + draw.below(3);
+        for pool in 0..4 {
+            state[POOLS + pool] = draw.below(150_000_001);
+        }
+        state[INERT] = draw.below(CEILING + 1);
+        let limit = deficit_limit(&state);
+        state[DEFICIT] = [0, 1, limit / 9 * 5 + 1, limit - 1, limit][round % 5];
+        state[MONTHS] = [0, 1, 119_998, 119_999][round % 4];
+        let mut entries = [
+            draw.between(-50, 500),
+            draw.between(0, 600),
+            draw.between(0, 1500),
+            (round / 3 % 2) as i64,
+            draw.between(0, 40_000_000),
+            draw.between(0, 40_000_000),
+        ];
+        if round % 7 == 0 {
+            (entries[RAIN], entries[EVAPORATION]) = (0, 0);
+        }
+        let call = fixed_pools(month(state, state[MONTHS] + 1, entries));
+        let Call::Month { mut state, .. } = call else {
+            unreachable!()
+        };
+        let active: u64 = state[POOLS..INERT].iter().sum();
+        // CO2 at its bound: the month's own CO2 takes it beyond, and the call still runs.
+        if active <= CEILING + A_MONTH * state[MONTHS] {
+            let most = CEILING + A_MONTH * state[MONTHS] - active;
+            state[CO2] = if round % 3 == 0 {
+                draw.below(most + 1)
+            } else {
+                most
+            };
+        }
+        sheet.runs(month(state, state[MONTHS] + 1, entries));
+    }
+}
+
+/// Step 3 around its bounds: the cap under a crop and on bare soil, D as it was before the month
+/// on bare soil that is drier than its limit, 0.444 of M from both sides, B's exact half.
+fn month_water(sheet: &mut Sheet) {
+    sheet.group("M: deficits at 0, the bare limit, 0.444 of M and M from both sides; B's half");
+    let mut draw = Draw::new(47);
+    let big = pools([100_000_000, 90_000_000, 80_000_000, 70_000_000]);
+    let mut water = |sheet: &mut Sheet, clay: u64, depth: u64, deficit: u64, rest: [i64; 3]| {
+        let mut state = changed(changed(STATE, &big), &[(CLAY, clay), (DEPTH, depth)]);
+        state[DEFICIT] = deficit;
+        let [rain, evaporation, cover] = rest;
+        let temperature = draw.between(50, 300);
+        let entries = [temperature, rain, evaporation, cover, 0, 0];
+        sheet.runs(fixed_pools(month(state, 11, entries)));
+    };
+    for (clay, depth) in [(0, 1), (1000, 100), (234, 23), (650, 77)] {
+        let limit = deficit_limit(&changed(STATE, &[(CLAY, clay), (DEPTH, depth)]));
+        let bare = limit / 9 * 5;
+        // The first D that isn't below 0.444 of M.
+        let point = (444 * limit).div_ceil(1000);
+        for deficit in [point - 1, point, bare, bare + 1, limit] {
+            for cover in [0, 1] {
+                water(sheet, clay, depth, deficit, [0, 0, cover]);
+            }
+        }
+        // Drying on bare soil stops at its limit, or at the D it had; rain still wets it.
+        water(sheet, clay, depth, bare - 1, [0, 1, 0]);
+        water(sheet, clay, depth, bare + 1, [0, 20_000, 0]);
+        water(sheet, clay, depth, limit, [1, 0, 0]);
+        water(sheet, clay, depth, limit, [20_000, 0, 0]);
+        water(sheet, clay, depth, limit - 1, [0, 20_000, 1]);
+        // 0.75 of evaporation against rain: 4 and 3 balance.
+        water(sheet, clay, depth, bare / 2, [3, 4, 1]);
+        water(sheet, clay, depth, 0, [3, 5, 1]);
+        water(sheet, clay, depth, 1, [4, 5, 0]);
+    }
+    // Clay 100, depth 23, 59,046,750 parts: B is 3562.5, halves up.
+    for deficit in [59_046_749, 59_046_750, 59_046_751] {
+        for cover in [0, 1] {
+            water(sheet, 100, 23, deficit, [0, 0, cover]);
+        }
+    }
+    // The same deficit reached by a month: 155,250 × 383 - 207,000 × 2.
+    water(sheet, 100, 23, 0, [2, 383, 1]);
+}
+
+/// Steps 5 and 6 in small grams: every rounding down, for each kind.
+fn month_shares(sheet: &mut Sheet) {
+    sheet.group("M: shares of plant, manure and formed in small grams, each kind");
+    for kind in 1..=3 {
+        let empty = changed(STATE, &[&pools([0; 4])[..], &[(KIND, kind)]].concat());
+        for (plant, manure) in [
+            (1, 1),
+            (2, 3),
+            (4, 49),
+            (5, 50),
+            (60, 51),
+            (61, 98),
+            (62, 100),
+            (166, 101),
+            (167, 149),
+            (168, 150),
+            (99_999_999, 99_999_999),
+            (100_000_000, 100_000_000),
+        ] {
+            sheet.runs(month(empty, 11, [93, 500, 300, 0, plant, manure]));
+        }
+    }
+    // Tiny pools in great heat: losses of a few grams, formed and its 46 hundredths rounded down.
+    for grams in [1, 2, 3, 5, 9, 14, 22, 40] {
+        let state = changed(STATE, &pools([grams, 40 - grams / 2, grams * 3, grams * 7]));
+        sheet.runs(month(state, 11, [500, 500, 300, 0, 0, 0]));
+        sheet.runs(month(state, 11, [500, 0, 20_000, 1, grams as i64, 3]));
+    }
+}
+
+/// Redraws the pools of an accepted month until all allowed S keep the same grams: from each
+/// pool's grams downward the first that are fixed.
+fn fixed_pools(call: Call) -> Call {
+    let Call::Month {
+        mut state,
+        number,
+        entries,
+    } = call
+    else {
+        panic!("a month")
+    };
+    let own = state_of(&state);
+    let n = factors(&own.soil, own.deficit, &entries_of(&entries)).n;
+    for pool in 0..4 {
+        let (lowest, highest) = allowed_range(n, RATES[pool]);
+        let grams = &mut state[POOLS + pool];
+        while kept(*grams, lowest) != kept(*grams, highest) {
+            *grams -= 1;
+        }
+    }
+    month(state, number, entries)
+}
+
+/// Would A, B or R one off give another row?
+fn shows_factors(call: &Call) -> bool {
+    let Call::Month { state, entries, .. } = call else {
+        panic!("a month")
+    };
+    let (own, entries) = (state_of(state), entries_of(entries));
+    let right = factors(&own.soil, own.deficit, &entries);
+    let cover = if entries.cover == 1 { 6 } else { 10 };
+    let keeps = |n: u64| -> [u64; 4] {
+        std::array::from_fn(|pool| kept(own.soil.pools[pool], survival_nearest(n, RATES[pool])))
+    };
+    let kept = keeps(right.n);
+    let lost = own.soil.active() as u64 - kept.iter().sum::<u64>();
+    let formed = |r: u64| lost * r / 1_000_000;
+    let (a, b, r) = (right.temperature, right.moisture, right.clay);
+    [a - 1, a + 1].iter().all(|a| keeps(a * b * cover) != kept)
+        && [b - 1, b + 1].iter().all(|b| keeps(a * b * cover) != kept)
+        && [r - 1, r + 1]
+            .iter()
+            .all(|other| formed(*other) != formed(r))
+}
+
+/// Every temperature from -50 to 500 and 551 clays from 0 to 1000, the tightest of steps 1 and 2
+/// among them, with pools so large that A, B or R one off would show; kinds, depths, covers and
+/// deficits drawn.
+fn month_factors(sheet: &mut Sheet) {
+    sheet.group(
+        "M: every temperature from -50 to 500, clays from 0 to 1000; A, B or R one off would show",
+    );
+    let mut draw = Draw::new(53);
+    for step in 0..551u64 {
+        // 200 and 551 have no common factor: every temperature comes once.
+        let temperature = (step * 200 + 7) as i64 % 551 - 50;
+        let clay = match step * 1000 / 550 {
+            // R is closest to a half at 17 and 658.
+            16 => 17,
+            657 => 658,
+            other => other,
+        };
+        loop {
+            let mut state = STATE;
+            state[CLAY] = clay;
+            state[DEPTH] = 1 + draw.below(100);
+            state[KIND] = 1 + draw.below(3);
+            state[POOLS] = 90_000_000 + draw.below(60_000_000);
+            for pool in 1..4 {
+                state[POOLS + pool] = draw.below(100_000_000);
+            }
+            state[INERT] = draw.below(100_000);
+            let limit = deficit_limit(&state);
+            state[DEFICIT] = draw.below(4).min(1) * draw.below(limit + 1);
+            state[MONTHS] = draw.below(120_000);
+            state[CO2] = draw.below(1_000_000);
+            let entries = [
+                temperature,
+                draw.between(0, 900),
+                draw.between(0, 1500),
+                draw.between(0, 1),
+                draw.between(0, 1) * draw.between(0, 9_000_000),
+                draw.between(0, 1) * draw.between(0, 9_000_000),
+            ];
+            let call = fixed_pools(month(state, state[MONTHS] + 1, entries));
+            if shows_factors(&call) {
+                sheet.runs(call);
+                break;
+            }
+        }
+    }
+}
+
+// ---- L: a list of months ----
+
+fn list(weather: &[i64], land: &[i64], output: usize, state: StateNumbers) -> Call {
+    Call::List {
+        weather: weather.to_vec(),
+        land: land.to_vec(),
+        output,
+        state,
+    }
+}
+
+/// New state of the small soil.
+fn fresh() -> StateNumbers {
+    let mut state = [0; 11];
+    state[..SOIL_NUMBERS].copy_from_slice(&SOIL);
+    state
+}
+
+fn rows(row: [i64; 3], count: usize) -> Vec<i64> {
+    row.repeat(count)
+}
+
+const COLD: [i64; 3] = [-60, 0, 0];
+const MAY: [i64; 3] = [110, 520, 830];
+const BARE: [i64; 3] = [0, 0, 0];
+const CROP: [i64; 3] = [1, 610, 0];
+
+/// 3: rows 0, 1, 2, 3, 1200, 1201 of either list, numbers not in threes.
+fn list_rows(sheet: &mut Sheet) {
+    sheet.group("L: rows 0, 1, 2, 3, 1200, 1201 of weather and of land, numbers not in threes");
+    let state = fresh();
+    for count in [1, 2, 3] {
+        for other in [1, 2, 3] {
+            sheet.runs(list(
+                &rows(MAY, count),
+                &rows(CROP, other),
+                other * 7,
+                state,
+            ));
+        }
+    }
+    let none: [i64; 0] = [];
+    sheet.refused_at(3, 0, list(&none, &none, 0, state));
+    for short in [0, 1, 2, 4, 5, 7] {
+        sheet.refused_at(3, 0, list(&rows(MAY, 3)[..short], &CROP, 7, state));
+        sheet.refused_at(3, 0, list(&MAY, &rows(CROP, 3)[..short], 21, state));
+    }
+    // 1,200 rows of each: tiny pools keep it fixed. Weather of 1,200 rows for one month.
+    let tiny = changed(fresh(), &pools([90, 80, 70, 60]));
+    let year = [
+        [34, 740, 80],
+        [110, 520, 830],
+        [160, 340, 1030],
+        [-60, 580, 690],
+    ]
+    .concat();
+    let field = [[0, 0, 0], [1, 30, 0], [1, 0, 9], [0, 0, 0]].concat();
+    sheet.runs(list(&year, &field.repeat(300), 8_400, tiny));
+    sheet.runs(list(&rows(COLD, 1_200), &CROP, 7, tiny));
+    sheet.runs(list(&year.repeat(300), &field.repeat(300), 8_401, tiny));
+    // 1,201 rows, and one or two numbers beside 1,200 rows.
+    for count in [3_603, 3_601, 3_599] {
+        sheet.refused_at(3, 0, list(&rows(COLD, 1_201)[..count], &CROP, 7, tiny));
+        sheet.refused_at(3, 0, list(&COLD, &rows(BARE, 1_201)[..count], 8_407, tiny));
+    }
+}
+
+/// 8: output one number too short, exact, longer; the rest stays as it was.
+fn list_output(sheet: &mut Sheet) {
+    sheet.group("L: output one too short, exact, longer (the rest stays), none at all");
+    for count in [1, 2, 5] {
+        let land = rows(CROP, count);
+        let exact = count * 7;
+        for output in [exact, exact + 1, exact + 6, exact + 7, exact + 20] {
+            sheet.runs(list(&MAY, &land, output, STATE));
+        }
+        for output in [exact - 1, exact - 7, 0, count * 3] {
+            sheet.refused_at(8, 0, list(&MAY, &land, output, STATE));
+        }
+        // Against all land rows, even where month 1 would be refused.
+        let land = [&[2, 0, 0], &land[3..]].concat();
+        sheet.refused_at(8, 0, list(&MAY, &land, exact - 1, STATE));
+        sheet.refused_at(15, 1, list(&MAY, &land, exact, STATE));
+    }
+    sheet.refused_at(8, 0, list(&COLD, &rows(BARE, 1_200), 8_399, STATE));
+}
+
+/// Faults outside the months and their order: 3, 4 to 7, 8, 10, then the months.
+fn list_outside(sheet: &mut Sheet) {
+    sheet.group("L: state faults 4 to 7 and 10, and the order 3, 4 to 7, 8, 10, months");
+    let land = rows(CROP, 2);
+    let limit = deficit_limit(&STATE);
+    let faults: [(u64, &[(usize, u64)]); 16] = [
+        (4, &[(CLAY, 1001)]),
+        (4, &[(CLAY, u64::MAX)]),
+        (5, &[(DEPTH, 0)]),
+        (5, &[(DEPTH, 101)]),
+        (6, &[(KIND, 0)]),
+        (6, &[(KIND, 4)]),
+        (7, &[(POOLS, CEILING + 1)]),
+        (7, &[(POOLS, u64::MAX), (POOLS + 1, 1)]),
+        (7, &[(INERT, CEILING + 1)]),
+        (10, &[(DEFICIT, limit + 1)]),
+        (10, &[(DEFICIT, u64::MAX)]),
+        (10, &[(MONTHS, 120_001)]),
+        (10, &[(MONTHS, u64::MAX)]),
+        (10, &[(CO2, CEILING + 10 * A_MONTH)]),
+        (10, &[(CO2, u64::MAX)]),
+        (10, &[(MONTHS, 0), (CO2, CEILING)]),
+    ];
+    for (number, changes) in faults {
+        let state = changed(STATE, changes);
+        sheet.refused_at(number, 0, list(&MAY, &land, 14, state));
+        // Against a month's fault: the state comes first.
+        sheet.refused_at(number, 0, list(&[501, -1, -1], &[2, -1, -1], 7, state));
+        // Against 8: 4 to 7 come first, 10 doesn't.
+        let first = if number == 10 { 8 } else { number };
+        sheet.refused_at(first, 0, list(&MAY, &land, 13, state));
+        // Against 3: that comes first.
+        sheet.refused_at(3, 0, list(&MAY[..2], &land, 14, state));
+    }
+    sheet.refused_at(3, 0, list(&MAY, &land[..5], 0, STATE));
+    // D at M and CO2 at its bound run.
+    sheet.runs(list(&MAY, &land, 14, changed(STATE, &[(DEFICIT, limit)])));
+    let active = 1_533 + 44_852 + 6_671 + 258_576;
+    let most = CEILING + 10 * A_MONTH - active;
+    sheet.runs(list(&MAY, &land, 14, changed(STATE, &[(CO2, most)])));
+}
+
+/// Months refused at 1, in the middle and at the end: the place, the state after the months
+/// before it and their rows. 12 at place 1 and later. The earliest month wins, then the lowest number.
+fn list_months(sheet: &mut Sheet) {
+    sheet.group("L: months refused at 1, in the middle, at the end; 12 at 1 and later");
+    let weather = rows(MAY, 5);
+    let land = rows(CROP, 5);
+    let faults: [(u64, Option<[i64; 3]>, Option<[i64; 3]>); 16] = [
+        (13, Some([-401, 0, 0]), None),
+        (13, Some([501, 0, 0]), None),
+        (13, Some([i64::MIN, i64::MIN, i64::MIN]), None),
+        (14, Some([93, -1, 0]), None),
+        (14, Some([93, 20_001, 0]), None),
+        (14, Some([93, 0, -1]), None),
+        (14, Some([93, 0, 20_001]), None),
+        (14, Some([93, i64::MIN, i64::MAX]), None),
+        (15, None, Some([-1, 0, 0])),
+        (15, None, Some([2, 0, 0])),
+        (16, None, Some([0, -1, 0])),
+        (16, None, Some([1, 100_000_001, 0])),
+        (16, None, Some([0, 0, i64::MIN])),
+        (16, None, Some([0, i64::MAX, i64::MAX])),
+        (13, Some([501, -1, 0]), Some([2, -1, -1])),
+        (15, None, Some([2, -1, -1])),
+    ];
+    for (index, (number, sky, field)) in faults.iter().enumerate() {
+        for place in [1, 3, 5] {
+            let (mut weather, mut land) = (weather.clone(), land.clone());
+            if let Some(row) = sky {
+                weather[place * 3 - 3..place * 3].copy_from_slice(row);
+            }
+            if let Some(row) = field {
+                land[place * 3 - 3..place * 3].copy_from_slice(row);
+            }
+            // A lower number in a later month doesn't matter.
+            if index % 2 == 1 && place < 5 {
+                weather[12..15].copy_from_slice(&[-401, -1, -1]);
+            }
+            let output = 35 + index % 3;
+            sheet.refused_at(*number, place as u64, list(&weather, &land, output, STATE));
+        }
+    }
+    // 17: in frost the pools only grow, by 100,000,000 a month.
+    let grow = rows([0, 60_000_000, 40_000_000], 5);
+    for (active, place) in [(950_000_000, 1), (700_000_001, 3), (500_000_001, 5)] {
+        let state = changed(fresh(), &pools([active, 0, 0, 0]));
+        sheet.refused_at(17, place, list(&COLD, &grow, 35, state));
+    }
+    sheet.runs(list(
+        &COLD,
+        &grow,
+        35,
+        changed(fresh(), &pools([500_000_000, 0, 0, 0])),
+    ));
+    // 12 at places 1, 2, 4 and 6; the months before it ran.
+    let land = rows(CROP, 7);
+    for (months, place) in [(120_000, 1), (119_999, 2), (119_997, 4), (119_995, 6)] {
+        let state = changed(STATE, &[(MONTHS, months)]);
+        sheet.refused_at(12, place, list(&MAY, &land, 49, state));
+        // 12 before 13 to 16 of its own month, an earlier month's fault before 12.
+        let row = place as usize * 3;
+        let mut faulty = land.clone();
+        faulty[row - 3..row].copy_from_slice(&[2, -1, -1]);
+        sheet.refused_at(12, place, list(&MAY, &faulty, 49, state));
+        if place > 1 {
+            faulty[row - 6] = 2;
+            sheet.refused_at(15, place - 1, list(&MAY, &faulty, 49, state));
+        }
+        // Only as many months as are left.
+        let left = (place as usize - 1) * 3;
+        if left > 0 {
+            sheet.runs(list(&MAY, &land[..left], 49, state));
+        }
+    }
+    sheet.runs(list(
+        &MAY,
+        &land[..15],
+        35,
+        changed(STATE, &[(MONTHS, 119_995)]),
+    ));
+}
+
+/// Weather that wraps round, from the list's first month on; weather rows that no month uses
+/// aren't checked.
+fn list_weather(sheet: &mut Sheet) {
+    sheet.group("L: weather wraps round; faulty weather rows that no month uses don't refuse");
+    let skies = [
+        [34, 740, 80],
+        [110, 520, 830],
+        [160, 340, 1030],
+        [158, 550, 910],
+        [62, 750, 160],
+    ]
+    .concat();
+    for count in 1..=5 {
+        for months in [1, 2, 4, 5, 6, 11] {
+            sheet.runs(list(
+                &skies[..count * 3],
+                &rows(CROP, months),
+                months * 7,
+                STATE,
+            ));
+        }
+    }
+    for bad in [
+        [501, 0, 0],
+        [-401, 0, 0],
+        [0, -1, 0],
+        [0, 0, 20_001],
+        [i64::MIN, i64::MAX, i64::MIN],
+    ] {
+        for good in 1..=3 {
+            let weather = [&skies[..good * 3], &bad, &bad].concat();
+            // As many months as good rows, then one more.
+            sheet.runs(list(&weather, &rows(CROP, good), good * 7, STATE));
+            let number = if (-400..=500).contains(&bad[0]) {
+                14
+            } else {
+                13
+            };
+            let land = rows(CROP, good + 1);
+            let place = good as u64 + 1;
+            sheet.refused_at(number, place, list(&weather, &land, good * 7 + 7, STATE));
+        }
+    }
+}
+
+/// Lists within the bounds, drawn until they are fixed.
+fn list_drawn(sheet: &mut Sheet) {
+    sheet.group("L: drawn lists of up to 40 months, all kinds, with rest in the output");
+    let mut draw = Draw::new(59);
+    let mut made = 0;
+    while made < 24 {
+        let mut state = drawn_state(&mut draw, 900_000);
+        state[MONTHS] = draw.below(119_900);
+        let weather = drawn_weather(&mut draw, 1 + made % 13);
+        let months = 1 + draw.below(40) as usize;
+        let land = drawn_land(&mut draw, months, 60_000);
+        let output = months * 7 + draw.below(9) as usize;
+        made += usize::from(sheet.runs_if_fixed(list(&weather, &land, output, state)));
+    }
+}
+
+/// A state that nothing refuses, with pools up to this.
+fn drawn_state(draw: &mut Draw, largest: u64) -> StateNumbers {
+    let mut state = [0; 11];
+    state[CLAY] = draw.below(1001);
+    state[DEPTH] = 1 + draw.below(100);
+    state[KIND] = 1 + draw.below(3);
+    for pool in 0..5 {
+        state[POOLS + pool] = draw.below(largest + 1);
+    }
+    state[DEFICIT] = draw.below(deficit_limit(&state) + 1);
+    state
+}
+
+fn drawn_weather(draw: &mut Draw, count: usize) -> Vec<i64> {
+    (0..count)
+        .flat_map(|_| {
+            [
+                draw.between(-90, 320),
+                draw.between(0, 1500),
+                draw.between(0, 1800),
+            ]
+        })
+        .collect()
+}
+
+fn drawn_land(draw: &mut Draw, count: usize, largest: i64) -> Vec<i64> {
+    (0..count)
+        .flat_map(|_| {
+            let mut addition = || {
+                if draw.below(2) == 0 {
+                    0
+                } else {
+                    draw.between(0, largest)
+                }
+            };
+            let (plant, manure) = (addition(), addition());
+            [draw.between(0, 1), plant, manure]
+        })
+        .collect()
+}
+
+// ---- S: spin-up ----
+
+fn spin(weather: &[i64], land: &[i64], years: u64, state: StateNumbers) -> Call {
+    Call::SpinUp {
+        weather: weather.to_vec(),
+        land: land.to_vec(),
+        years,
+        state,
+    }
+}
+
+/// Twelve bare rows with these grams of plant in the first.
+fn first_month(plant: i64) -> Vec<i64> {
+    let mut land = rows(BARE, 12);
+    land[1] = plant;
+    land
+}
+
+/// Faults outside the months: 3, 4 to 7, 9, 10 in this order, place 0.
+fn spin_outside(sheet: &mut Sheet) {
+    sheet.group(
+        "S: 36 numbers or not, state faults, years 0 and 10,001; the order 3, 4 to 7, 9, 10",
+    );
+    let (weather, land) = (rows(COLD, 12), rows(BARE, 12));
+    for count in [0, 3, 12, 33, 35, 37, 39, 72] {
+        sheet.refused_at(3, 0, spin(&rows(COLD, 24)[..count], &land, 5, STATE));
+        sheet.refused_at(3, 0, spin(&weather, &rows(BARE, 24)[..count], 5, STATE));
+    }
+    for years in [0, 10_001, 10_002, u64::MAX, 1 << 63, (1 << 32) + 1] {
+        sheet.refused_at(9, 0, spin(&weather, &land, years, STATE));
+    }
+    let limit = deficit_limit(&STATE);
+    let faults: [(u64, &[(usize, u64)]); 11] = [
+        (4, &[(CLAY, 1001)]),
+        (5, &[(DEPTH, 0)]),
+        (5, &[(DEPTH, 101)]),
+        (6, &[(KIND, 0)]),
+        (7, &[(POOLS + 3, CEILING + 1)]),
+        (7, &[(POOLS, 1 << 63), (POOLS + 2, 1 << 63)]),
+        (7, &[(INERT, u64::MAX)]),
+        (10, &[(DEFICIT, limit + 1)]),
+        (10, &[(MONTHS, 120_001)]),
+        (10, &[(CO2, CEILING + 10 * A_MONTH)]),
+        (10, &[(CO2, u64::MAX)]),
+    ];
+    for (number, changes) in faults {
+        let state = changed(STATE, changes);
+        sheet.refused_at(number, 0, spin(&weather, &land, 5, state));
+        // Against a month's fault, 9 and 3.
+        let faulty = [&[2, -1, -1], &land[3..]].concat();
+        sheet.refused_at(number, 0, spin(&weather, &faulty, 5, state));
+        let first = if number == 10 { 9 } else { number };
+        for years in [0, 10_001] {
+            sheet.refused_at(first, 0, spin(&weather, &land, years, state));
+        }
+        sheet.refused_at(3, 0, spin(&weather, &land[..33], 0, state));
+    }
+}
+
+/// Settled in the first year, later, and not at all: the years run and the state reached.
+fn spin_years(sheet: &mut Sheet) {
+    sheet.group("S: settled at 1,000 g and not at 1,001 g, up and down; years 1, 2, 10,000");
+    let weather = rows(COLD, 12);
+    let settled = |sheet: &mut Sheet, is: u64, years: u64, call: Call| {
+        sheet.runs(call);
+        let answer = &sheet.groups.last().unwrap().lines.last().unwrap().answer;
+        assert_eq!(answer[1..3], [is, years]);
+    };
+    for years in [1, 2, 3, 10_000] {
+        // Nothing changes, and 1,000 g more: settled after one year.
+        for plant in [0, 999, 1_000] {
+            settled(
+                sheet,
+                1,
+                1,
+                spin(&weather, &first_month(plant), years, STATE),
+            );
+        }
+    }
+    // 1,001 g more a year never settles.
+    for years in [1, 2, 3, 40] {
+        settled(
+            sheet,
+            0,
+            years,
+            spin(&weather, &first_month(1_001), years, STATE),
+        );
+    }
+    let empty = changed(fresh(), &pools([0; 4]));
+    settled(
+        sheet,
+        0,
+        10_000,
+        spin(&weather, &first_month(1_001), 10_000, empty),
+    );
+    // Only the year's end counts: a gain spread over the months.
+    let spread: Vec<i64> = (0..12)
+        .flat_map(|j| [1, 40, 43 + i64::from(j < 4)])
+        .collect();
+    settled(sheet, 1, 1, spin(&weather, &spread, 9, STATE));
+    let mut more = spread.clone();
+    more[35] += 1;
+    settled(sheet, 0, 9, spin(&weather, &more, 9, STATE));
+    // One warm month decays, eleven are frozen: the year's fall is its CO2 less the plant, which
+    // comes after decay. Falls of 1,000 and 1,001.
+    let warm = [&[200, 500, 300], &weather[3..]].concat();
+    for seed in 0..3u64 {
+        let state = changed(fresh(), &pools([9_000 + seed * 777, 20_000, 3_000, 40_000]));
+        let (answer, _) = spin(&warm, &first_month(0), 1, state).fixed_answer();
+        let co2 = answer[3 + CO2] as i64;
+        assert!(co2 > 1_001);
+        settled(
+            sheet,
+            1,
+            1,
+            spin(&warm, &first_month(co2 - 1_000), 1, state),
+        );
+        settled(
+            sheet,
+            0,
+            1,
+            spin(&warm, &first_month(co2 - 1_001), 1, state),
+        );
+        settled(
+            sheet,
+            1,
+            1,
+            spin(&warm, &first_month(co2 + 1_000), 7, state),
+        );
+        settled(
+            sheet,
+            0,
+            1,
+            spin(&warm, &first_month(co2 + 1_001), 1, state),
+        );
+    }
+    // IOM stands in the total and doesn't move; CO2 and deficit don't count.
+    let inert = changed(STATE, &[(INERT, CEILING)]);
+    settled(sheet, 1, 1, spin(&weather, &first_month(1_000), 3, inert));
+}
+
+/// Refused in the first and in later years: the place counted over all years, the starting state.
+fn spin_places(sheet: &mut Sheet) {
+    sheet.group("S: refused in the first and in later years, the place counted over all years");
+    let weather = rows(COLD, 12);
+    // The earliest faulty month of the year, at places 1, 5 and 12.
+    for place in [1, 5, 12] {
+        let row = place * 3 - 3;
+        for (number, at, value) in [(13, 0, 501), (13, 0, -401), (14, 1, -1), (14, 2, 20_001)] {
+            let mut weather = weather.clone();
+            weather[row + at] = value;
+            sheet.refused_at(
+                number,
+                place as u64,
+                spin(&weather, &rows(CROP, 12), 10, STATE),
+            );
+        }
+        for (number, at, value) in [
+            (15, 0, 2),
+            (15, 0, i64::MIN),
+            (16, 1, -1),
+            (16, 2, i64::MAX),
+        ] {
+            let mut land = rows(CROP, 12);
+            land[row + at] = value;
+            sheet.refused_at(number, place as u64, spin(&weather, &land, 10, STATE));
+        }
+    }
+    // 17 in year 4, month 5: place 41. And in other years, with the gain in other months.
+    for (start, month, place) in [
+        (600_000_001, 5, 41),
+        (600_000_000, 5, 53),
+        (900_000_001, 1, 1),
+        (900_000_001, 12, 12),
+        (900_000_000, 1, 13),
+        (100_000_000, 12, 120),
+    ] {
+        let mut land = rows(BARE, 12);
+        land[month * 3 - 2] = 100_000_000;
+        let state = changed(fresh(), &pools([start, 0, 0, 0]));
+        sheet.refused_at(17, place, spin(&weather, &land, 10_000, state));
+    }
+    // One year fewer: not refused.
+    let mut land = rows(BARE, 12);
+    land[13] = 100_000_000;
+    let state = changed(fresh(), &pools([600_000_001, 0, 0, 0]));
+    sheet.runs(spin(&weather, &land, 3, state));
+    // 12: from 120,000 months done at place 1, from 119,990 at 11, after whole years at 13 and 25.
+    let land = first_month(5_000);
+    for (months, place) in [
+        (120_000, 1),
+        (119_990, 11),
+        (119_989, 12),
+        (119_988, 13),
+        (119_976, 25),
+    ] {
+        let state = changed(STATE, &[(MONTHS, months)]);
+        sheet.refused_at(12, place, spin(&weather, &land, 10, state));
+        // A year that settles in time ends it; so do fewer years.
+        if place > 12 {
+            sheet.runs(spin(&weather, &first_month(0), 10, state));
+            sheet.runs(spin(&weather, &land, place / 12, state));
+        }
+    }
+    // 10,000 years are 120,000 months: with one month done the last is refused.
+    let one = changed(fresh(), &[(MONTHS, 1)]);
+    sheet.refused_at(12, 120_000, spin(&weather, &land, 10_000, one));
+}
+
+/// Spin-ups with decay, drawn until they are fixed: settled in the first and in later years, and not.
+fn spin_drawn(sheet: &mut Sheet) {
+    sheet.group("S: drawn spin-ups with decay, settled in the first or a later year, or unsettled");
+    let mut draw = Draw::new(61);
+    let mut made = [0; 3];
+    while made.iter().sum::<usize>() < 30 {
+        let mut state = drawn_state(&mut draw, 150_000);
+        state[MONTHS] = draw.below(100_000);
+        let weather = drawn_weather(&mut draw, 12);
+        let land = drawn_land(&mut draw, 12, 3_000);
+        let call = spin(&weather, &land, 1 + draw.below(9), state);
+        let (answer, fixed) = call.fixed_answer();
+        let sort = match (answer[1], answer[2]) {
+            (1, 1) => 0,
+            (1, _) => 1,
+            _ => 2,
+        };
+        if fixed && made[sort] < 10 {
+            made[sort] += 1;
+            sheet.put(call, answer);
+        }
+    }
+}
+
+// ---- D: survival numbers ----
+
+const MOST: u64 = 8_363_900_000;
+
+/// 600 numbers with s the nearest whole number: any S at most 1 from the exact number gives 1.
+fn survival_numbers(sheet: &mut Sheet) {
+    sheet.group("D: 600 survival numbers of drawn n and the four pools, s the nearest");
+    let mut draw = Draw::new(67);
+    for round in 0..600 {
+        let n = match round / 4 {
+            0 => 0,
+            1 => 1,
+            2 => MOST,
+            3 => MOST - 1,
+            4 => 2,
+            5 => 162 * 2_000 * 6,
+            6 => 1_200_000_000,
+            // Of every size, up to the largest.
+            other if other % 3 == 0 => {
+                let size = 1 + draw.below(32);
+                draw.below(1 << size)
+            }
+            _ => draw.below(MOST + 1),
+        };
+        let pool = round % 4;
+        let s = survival_nearest(n, RATES[pool]);
+        let call = Call::Survival { n, pool, s };
+        let (answer, fixed) = call.fixed_answer();
+        assert!(fixed && answer == [1]);
+        sheet.put(call, answer);
+    }
+}
+
+/// At n = 0 the number is exact: 1 beside it both ways, 0 two beside it. Elsewhere 0 three and
+/// more from the nearest, and 0 where a difference would wrap.
+fn survival_ends(sheet: &mut Sheet) {
+    sheet.group("D: exact at n = 0; an s too far off gives 0, also where a difference would wrap");
+    let mut show = |n: u64, pool: usize, s: u64, wanted: u64| {
+        let call = Call::Survival { n, pool, s };
+        let (answer, fixed) = call.fixed_answer();
+        assert!(fixed && answer == [wanted], "{}", call.line());
+        sheet.put(call, answer);
+    };
+    for pool in 0..4 {
+        show(0, pool, BILLION + 1, 1);
+        show(0, pool, BILLION - 1, 1);
+        show(0, pool, BILLION + 2, 0);
+        show(0, pool, BILLION - 2, 0);
+        for n in [1, 356_100_000, MOST] {
+            let s = survival_nearest(n, RATES[pool]);
+            show(n, pool, s - 3, 0);
+            show(n, pool, s + 3, 0);
+            show(n, pool, 0, 0);
+            show(n, pool, u64::MAX, 0);
+        }
+    }
+}
+
+#[cfg(test)]
+mod tests {
+    use super::*;
+    use crate::exponential::allowed_range;
+
+    #[test]
+    fn lines_and_their_size() {
+        let groups = groups();
+        let lines: Vec<&Line> = groups.iter().flat_map(|group| &group.lines).collect();
+        let input: usize = lines.iter().map(|line| line.call.line().len() + 1).sum();
+        let output: usize = lines.iter().map(|line| words(&line.answer).len() + 1).sum();
+        assert!(lines.len() >= 2_400, "{} lines", lines.len());
+        assert!(input < 700_000, "{input} bytes in");
+        assert!(output < 900_000, "{output} bytes out");
+        // Every refusal that a call can meet is there, and the limits of the format are kept.
+        let mut seen = std::collections::BTreeSet::new();
+        for line in &lines {
+            let letter = line.call.line().chars().next().unwrap();
+            if letter != 'D' {
+                seen.insert((letter, line.answer[0]));
+            }
+            if let Call::List {
+                weather,
+                land,
+                output,
+                ..
+            } = &line.call
+            {
+                assert!(weather.len() <= 3_700 && land.len() <= 3_700 && *output <= 8_500);
+            }
+        }
+        let wanted: [(char, &[u64]); 4] = [
+            ('N', &[0, 4, 5, 6, 7]),
+            ('M', &[0, 4, 5, 6, 7, 10, 11, 12, 13, 14, 15, 16, 17]),
+            ('L', &[0, 3, 4, 5, 6, 7, 8, 10, 12, 13, 14, 15, 16, 17]),
+            ('S', &[0, 3, 4, 5, 6, 7, 9, 10, 12, 13, 14, 15, 16, 17]),
+        ];
+        let wanted = wanted
+            .iter()
+            .flat_map(|(letter, numbers)| numbers.iter().map(|number| (*letter, *number)))
+            .collect();
+        assert_eq!(seen, wanted);
+        // The answers don't move with S.
+        for line in &lines {
+            if matches!(line.call, Call::Survival { .. }) {
+                continue;
+            }
+            for end in 0..2 {
+                let mut survival = |n: u64, k: u64| {
+                    let (lowest, highest) = allowed_range(n, k);
+                    [lowest, highest][end]
+                };
+                let answer = line.call.answer(7, &mut survival, &mut |_, _| ());
+                assert!(answer == line.answer, "{}", line.call.line());
+            }
+        }
+    }
+
+    fn words(numbers: &[u64]) -> String {
+        let words: Vec<String> = numbers.iter().map(u64::to_string).collect();
+        words.join(" ")
+    }
+}

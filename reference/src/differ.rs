@@ -1,0 +1,1613 @@
+//! Another program held against the reference, call by call and number by number.
+//!
+//! The reference takes S from the other program, as S alone has latitude. Each S is asked for with
+//! the reference's own brackets: at most 1 from the exact number, and exactly 1,000,000,000 at
+//! w = 0. Everything else must then be equal: numbers, places, rows, states, bytes, and lent
+//! memory that stays as it was.
+
+use crate::book::{self, Answer};
+use crate::calls::{
+    entries_of, soil_of, state_of, Call, EntryNumbers, SoilNumbers, StateNumbers, CLAY, CO2, COVER,
+    DEFICIT, DEPTH, ENTRY_NUMBERS, EVAPORATION, INERT, KIND, MANURE, MONTHS, PLANT, POOLS, RAIN,
+    SOIL_NUMBERS, STATE_NUMBERS, TEMPERATURE,
+};
+use crate::exponential::{within, BILLION};
+use crate::fraction::Fraction;
+use crate::model::{Survival, MONTH_LIMIT, OUTPUT_NUMBERS, RATES};
+use crate::recurrence::{
+    carbon_closes, distance_exact, q_highest, q_lowest, Call as Answered, Decision, Enclosure,
+};
+use crate::vectors::{vectors, Draw};
+use std::collections::HashMap;
+
+/// What a function returns where lent memory of a fixed layout has another length.
+pub const WRONG_LENGTH: u64 = 100;
+/// What `survival` returns where it has no number to give.
+pub const NO_SURVIVAL: u64 = u64::MAX;
+/// The largest N of step 4: A at 500, 10,000 and 10.
+pub const LARGEST_N: u64 = 8_363_900_000;
+/// The most bytes that are written for a book.
+pub const LONGEST_TEXT: usize = 204_800;
+
+/// The program under test, as include/rothc.h has it. Slices are lent memory of any length; each
+/// function but `survival` returns the refusal's number, 0 or `WRONG_LENGTH`.
+pub trait Program {
+    fn start(&mut self, soil: &[u64], state: &mut [u64]) -> u64;
+    fn month(&mut self, state: &mut [u64], number: u64, entries: &[i64], row: &mut [u64]) -> u64;
+    fn list(
+        &mut self,
+        state: &mut [u64],
+        weather: &[i64],
+        land: &[i64],
+        rows: &mut [u64],
+        place: &mut u64,
+    ) -> u64;
+    /// `result`: settled, then the years run or the place.
+    fn spin_up(
+        &mut self,
+        state: &mut [u64],
+        weather: &[i64],
+        land: &[i64],
+        years: u64,
+        result: &mut [u64],
+    ) -> u64;
+    /// `length`: of the text, also where `out` is too short for it (8).
+    fn book(&mut self, book: &[u8], out: &mut [u8], length: &mut u64) -> u64;
+    /// `NO_SURVIVAL` for a pool above 3 or an n above `LARGEST_N`.
+    fn survival(&mut self, n: u64, pool: u64) -> u64;
+}
+
+/// How much to compare.
+#[derive(Clone, Copy, Debug)]
+pub struct Counts {
+    pub months: u64,
+    pub lists: u64,
+    pub spin_ups: u64,
+    pub books: u64,
+    /// Accepted months of the long chain.
+    pub chain: u64,
+}
+
+impl Default for Counts {
+    fn default() -> Counts {
+        Counts {
+            months: 120_000,
+            lists: 1_000,
+            spin_ups: 100,
+            books: 10_000,
+            chain: MONTH_LIMIT,
+        }
+    }
+}
+
+/// The other program's S, asked for each time: is it close enough, and the same as before?
+struct Asked<'a> {
+    program: &'a mut dyn Program,
+    known: &'a mut HashMap<(u64, u64), u64>,
+    faults: &'a mut Vec<String>,
+}
+
+impl Survival for Asked<'_> {
+    fn survival(&mut self, n: u64, k: u64) -> u64 {
+        let pool = RATES.iter().position(|rate| *rate == k).unwrap() as u64;
+        let s = self.program.survival(n, pool);
+        match self.known.get(&(n, pool)) {
+            Some(before) if *before == s => (),
+            Some(before) => self
+                .faults
+                .push(format!("S of n {n} pool {pool}: {before}, then {s}")),
+            None => {
+                self.known.insert((n, pool), s);
+                if !within(s, n, k, 1) {
+                    self.faults
+                        .push(format!("S of n {n} pool {pool}: {s} is not within 1"));
+                }
+            }
+        }
+        s.min(BILLION)
+    }
+}
+
+/// The comparison: counts, the first inputs that differ, and what it needs to go on.
+pub struct Differ<'a> {
+    program: &'a mut dyn Program,
+    draw: Draw,
+    known: HashMap<(u64, u64), u64>,
+    progress: &'a mut dyn FnMut(&str),
+    pub compared: u64,
+    pub differ: u64,
+    pub first: Vec<String>,
+    /// Calls by letter and number of their answer, to see that the draws reach everything.
+    pub seen: HashMap<(char, u64), u64>,
+}
+
+/// What a long chain is made of.
+#[derive(Clone, Copy, Debug)]
+enum Plan {
+    /// In turns of 500 months: full pools in heat and cold, a farm, frost, anything.
+    Mixed,
+    /// Nothing decays, so that roundings and q add up over the whole list.
+    Frost,
+    /// Next to nothing decays: the same with the roundings of step 5.
+    Thaw,
+}
+
+/// Inputs shown in full.
+const SHOWN: usize = 5;
+/// Numbers beside lent memory, to see that nothing is written there.
+const MARGIN: usize = 3;
+const GUARD: u64 = 0x5a5a_a5a5_1234_4321;
+
+/// Numbers with a margin on both sides.
+#[derive(Debug)]
+struct Lent {
+    numbers: Vec<u64>,
+}
+
+impl Lent {
+    fn new(numbers: &[u64]) -> Lent {
+        Lent {
+            numbers: [&[GUARD; MARGIN], numbers, &[GUARD; MARGIN]].concat(),
+        }
+    }
+
+    fn filled(fill: u64, count: usize) -> Lent {
+        Lent::new(&vec![fill; count])
+    }
+
+    fn get(&mut self) -> &mut [u64] {
+        let end = self.numbers.len() - MARGIN;
+        &mut self.numbers[MARGIN..end]
+    }
+
+    /// The numbers lent; the margins must stand.
+    fn take(&self) -> Result<&[u64], String> {
+        let end = self.numbers.len() - MARGIN;
+        let margins = self.numbers[..MARGIN].iter().chain(&self.numbers[end..]);
+        if margins.into_iter().any(|number| *number != GUARD) {
+            return Err("memory beside the lent memory was written".into());
+        }
+        Ok(&self.numbers[MARGIN..end])
+    }
+}
+
+/// The other program's answer to a call, in the layout of `Call::answer`.
+pub fn program_answer(
+    program: &mut dyn Program,
+    call: &Call,
+    fill: u64,
+) -> Result<Vec<u64>, String> {
+    match call {
+        Call::New { soil } => {
+            let mut state = Lent::filled(fill, STATE_NUMBERS);
+            let number = program.start(soil, state.get());
+            Ok([&[number], state.take()?].concat())
+        }
+        Call::Month {
+            state,
+            number,
+            entries,
+        } => {
+            let mut state = Lent::new(state);
+            let mut row = Lent::filled(fill, OUTPUT_NUMBERS);
+            let number = program.month(state.get(), *number, entries, row.get());
+            Ok([&[number], row.take()?, state.take()?].concat())
+        }
+        Call::List {
+            weather,
+            land,
+            output,
+            state,
+        } => {
+            let mut state = Lent::new(state);
+            let mut rows = Lent::filled(fill, *output);
+            let mut place = Lent::filled(fill, 1);
+            let number = program.list(state.get(), weather, land, rows.get(), &mut place.get()[0]);
+            Ok([&[number], place.take()?, state.take()?, rows.take()?].concat())
+        }
+        Call::SpinUp {
+            weather,
+            land,
+            years,
+            state,
+        } => {
+            let mut state = Lent::new(state);
+            let mut result = Lent::filled(fill, 2);
+            let number = program.spin_up(state.get(), weather, land, *years, result.get());
+            Ok([&[number], result.take()?, state.take()?].concat())
+        }
+        Call::Survival { n, pool, s } => {
+            let own = program.survival(*n, *pool as u64);
+            Ok(vec![u64::from(own.abs_diff(*s) <= 1)])
+        }
+    }
+}
+
+/// Bytes as text: what isn't printed stands as \x and two digits.
+fn shown(bytes: &[u8]) -> String {
+    bytes
+        .iter()
+        .flat_map(|byte| std::ascii::escape_default(*byte))
+        .map(char::from)
+        .collect()
+}
+
+/// Where two answers first differ, and the numbers there; long answers aren't shown in full.
+fn difference<T: PartialEq + std::fmt::Debug>(wanted: &[T], given: &[T]) -> String {
+    let place = wanted
+        .iter()
+        .zip(given)
+        .position(|(wanted, given)| wanted != given)
+        .unwrap_or(wanted.len().min(given.len()));
+    let from = place.saturating_sub(20);
+    let part = |numbers: &[T]| format!("{:?}", &numbers[from..numbers.len().min(from + 60)]);
+    format!(
+        "first at {place}; from {from} on\nwanted: {}\ngiven:  {}",
+        part(wanted),
+        part(given)
+    )
+}
+
+impl<'a> Differ<'a> {
+    pub fn new(
+        program: &'a mut dyn Program,
+        seed: u64,
+        progress: &'a mut dyn FnMut(&str),
+    ) -> Differ<'a> {
+        Differ {
+            program,
+            // Small seeds far apart.
+            draw: Draw::new(seed.wrapping_mul(0x9e37_79b9_7f4a_7c15) ^ 0x1852),
+            known: HashMap::new(),
+            progress,
+            compared: 0,
+            differ: 0,
+            first: Vec::new(),
+            seen: HashMap::new(),
+        }
+    }
+
+    /// Everything.
+    pub fn run(&mut self, counts: &Counts) {
+        self.test_lines();
+        self.factors();
+        self.months(counts.months);
+        self.lists(counts.lists);
+        self.spin_ups(counts.spin_ups);
+        self.books(counts.books);
+        self.wrong_lengths();
+        self.short_chains();
+        self.long_chain(counts.chain, Plan::Mixed);
+        self.long_chain(counts.chain, Plan::Frost);
+        self.long_chain(counts.chain, Plan::Thaw);
+    }
+
+    fn say(&mut self, text: String) {
+        (self.progress)(&text);
+    }
+
+    /// Counts a comparison.
+    fn outcome(&mut self, same: bool, text: impl FnOnce() -> String) {
+        self.compared += 1;
+        if !same {
+            self.differ += 1;
+            if self.first.len() < SHOWN {
+                self.first.push(text());
+            }
+        }
+    }
+
+    /// One call; the other program's state after it, where it has one.
+    fn call(&mut self, call: &Call) -> Option<StateNumbers> {
+        let fill = match self.draw.below(4) {
+            0 => 0,
+            1 => u64::MAX,
+            2 => self.draw.next(),
+            _ => 7,
+        };
+        let given = program_answer(self.program, call, fill);
+        let mut faults = Vec::new();
+        let mut asked = Asked {
+            program: &mut *self.program,
+            known: &mut self.known,
+            faults: &mut faults,
+        };
+        let wanted = call.answer(fill, &mut asked, &mut |_, _| ());
+        let letter = call.line().chars().next().unwrap();
+        *self.seen.entry((letter, wanted[0])).or_default() += 1;
+        let same = given.as_ref() == Ok(&wanted) && faults.is_empty();
+        self.outcome(same, || {
+            let numbers = match &given {
+                Ok(given) => difference(&wanted, given),
+                Err(text) => text.clone(),
+            };
+            format!(
+                "call:   {}\nfill:   {fill}\n{numbers}\nS:      {faults:?}",
+                call.line()
+            )
+        });
+        let at = match call {
+            Call::New { .. } => 1,
+            Call::Month { .. } => 1 + OUTPUT_NUMBERS,
+            Call::List { .. } => 2,
+            Call::SpinUp { .. } => 3,
+            Call::Survival { .. } => return None,
+        };
+        given
+            .ok()
+            .map(|given| std::array::from_fn(|index| given[at + index]))
+    }
+
+    /// The new state of an accepted soil, if the program gives the right one.
+    fn new_state(&mut self, soil: SoilNumbers) -> Option<StateNumbers> {
+        let mut right = [0; STATE_NUMBERS];
+        right[..SOIL_NUMBERS].copy_from_slice(&soil);
+        self.call(&Call::New { soil })
+            .filter(|state| *state == right)
+    }
+
+    // ---- Draws ----
+
+    fn pick<T: Copy>(&mut self, from: &[T]) -> T {
+        from[self.draw.below(from.len() as u64) as usize]
+    }
+
+    /// From 0 to `most`, of every size, often near the ends.
+    fn sized(&mut self, most: u64) -> u64 {
+        match self.draw.below(6) {
+            0 => self.draw.below(4).min(most),
+            1 => most - self.draw.below(4).min(most),
+            2 => {
+                let size = self.draw.below(64);
+                self.draw.below((1u64 << size).min(most).saturating_add(1))
+            }
+            _ => self.draw.below(most.saturating_add(1)),
+        }
+    }
+
+    fn signed(&mut self, most: i64) -> i64 {
+        self.sized(most as u64) as i64
+    }
+
+    /// Parts that add up to the total, some of them often 0.
+    fn parts(&mut self, total: u64) -> [u64; 4] {
+        let mut cuts = [0; 3].map(|_| self.sized(total));
+        cuts.sort_unstable();
+        let mut parts = [
+            cuts[0],
+            cuts[1] - cuts[0],
+            cuts[2] - cuts[1],
+            total - cuts[2],
+        ];
+        let turn = self.draw.below(4) as usize;
+        parts.rotate_left(turn);
+        parts
+    }
+
+    /// A soil that nothing refuses.
+    fn soil(&mut self) -> SoilNumbers {
+        let clay = match self.draw.below(6) {
+            0 => self.pick(&[0, 1, 17, 100, 234, 658, 650, 999, 1000]),
+            _ => self.draw.below(1001),
+        };
+        let depth = match self.draw.below(6) {
+            0 => self.pick(&[1, 23, 100]),
+            _ => 1 + self.draw.below(100),
+        };
+        let active = match self.draw.below(3) {
+            0 => self.draw.below(100_000_000),
+            _ => self.sized(1_000_000_000),
+        };
+        let pools = self.parts(active);
+        let inert = self.sized(1_000_000_000);
+        [
+            clay,
+            depth,
+            1 + self.draw.below(3),
+            pools[0],
+            pools[1],
+            pools[2],
+            pools[3],
+            inert,
+        ]
+    }
+
+    /// A state that nothing refuses, reached by a run or not.
+    fn state(&mut self) -> StateNumbers {
+        let mut state = [0; STATE_NUMBERS];
+        state[..SOIL_NUMBERS].copy_from_slice(&self.soil());
+        if self.draw.below(8) == 0 {
+            return state;
+        }
+        let limit = deficit_limit(&state);
+        let point = (444 * limit).div_ceil(1000);
+        let bare = limit / 9 * 5;
+        state[DEFICIT] = match self.draw.below(4) {
+            0 => self.pick(&[
+                0,
+                1,
+                point - 1,
+                point,
+                bare - 1,
+                bare,
+                bare + 1,
+                limit - 1,
+                limit,
+            ]),
+            _ => self.draw.below(limit + 1),
+        };
+        state[MONTHS] = match self.draw.below(6) {
+            0 => self.pick(&[0, 1, 11, 119_988, 119_998, 119_999]),
+            _ => self.draw.below(MONTH_LIMIT),
+        };
+        let most = 1_000_000_000 + 200_000_000 * state[MONTHS] - active(&state);
+        state[CO2] = self.sized(most);
+        state
+    }
+
+    fn weather(&mut self) -> [i64; 3] {
+        let temperature = match self.draw.below(8) {
+            0 => self.pick(&[-400, -399, -52, -51, -50, -49, 0, 133, 499, 500]),
+            1 => self.draw.between(-400, 500),
+            2 => self.draw.between(-60, 500),
+            _ => self.draw.between(-60, 300),
+        };
+        let (rain, evaporation) = match self.draw.below(6) {
+            0 => (self.signed(20_000), self.signed(20_000)),
+            1 => (0, 0),
+            _ => (self.draw.between(0, 1_500), self.draw.between(0, 1_800)),
+        };
+        [temperature, rain, evaporation]
+    }
+
+    /// Cover, plant and manure; together at most `room` grams, often just that.
+    fn land(&mut self, room: u64) -> [i64; 3] {
+        const MOST: u64 = 100_000_000;
+        let (plant, manure) = match self.draw.below(8) {
+            0 => (0, 0),
+            1 => {
+                let plant = self.sized(room.min(MOST));
+                (plant, (room - plant).min(MOST))
+            }
+            2 => {
+                let manure = self.sized(room.min(MOST));
+                ((room - manure).min(MOST), manure)
+            }
+            3 => (self.sized(room.min(MOST)), 0),
+            _ => {
+                let plant = self.draw.below(room.min(3_000_000) + 1);
+                (plant, self.sized((room - plant).min(3_000_000)))
+            }
+        };
+        let cover = self.draw.between(0, 1);
+        [cover, plant as i64, manure as i64]
+    }
+
+    fn entries(&mut self, state: &StateNumbers) -> EntryNumbers {
+        let room = 1_000_000_000u64.saturating_sub(active(state));
+        let [temperature, rain, evaporation] = self.weather();
+        let [cover, plant, manure] = self.land(room);
+        [temperature, rain, evaporation, cover, plant, manure]
+    }
+
+    /// An unsigned number that may be out of its bounds: beside a bound, or at an end.
+    fn wild(&mut self, bounds: &[u64]) -> u64 {
+        match self.draw.below(3) {
+            0 => {
+                let bound = self.pick(bounds);
+                self.pick(&[bound.saturating_sub(1), bound, bound.saturating_add(1)])
+            }
+            1 => self.pick(&[
+                0,
+                1,
+                u64::MAX,
+                u64::MAX - 1,
+                1 << 63,
+                (1 << 63) - 1,
+                1 << 62,
+                1 << 32,
+                (1 << 32) + 1,
+            ]),
+            _ => self.sized(u64::MAX - 1),
+        }
+    }
+
+    fn wild_signed(&mut self, bounds: &[i64]) -> i64 {
+        match self.draw.below(3) {
+            0 => {
+                let bound = self.pick(bounds);
+                self.pick(&[bound - 1, bound, bound + 1])
+            }
+            1 => self.pick(&[
+                -1,
+                0,
+                i64::MIN,
+                i64::MIN + 1,
+                i64::MAX,
+                i64::MAX - 1,
+                1 << 32,
+                -(1 << 32),
+                1 << 62,
+            ]),
+            _ => self.draw.next() as i64,
+        }
+    }
+
+    /// One number of a state made wild.
+    fn spoil_state(&mut self, state: &mut StateNumbers) {
+        let place = self.draw.below(STATE_NUMBERS as u64) as usize;
+        state[place] = match place {
+            CLAY => self.wild(&[0, 1000]),
+            DEPTH => self.wild(&[1, 100]),
+            KIND => self.wild(&[1, 3]),
+            INERT => self.wild(&[1_000_000_000]),
+            DEFICIT if (0..=1000).contains(&state[CLAY]) && state[DEPTH] <= 100 => {
+                let limit = deficit_limit(state);
+                self.wild(&[limit, limit / 9 * 5])
+            }
+            DEFICIT => self.wild(&[0]),
+            MONTHS => self.wild(&[120_000, 0]),
+            CO2 => {
+                let bound = 200_000_000u64
+                    .wrapping_mul(state[MONTHS])
+                    .wrapping_add(1_000_000_000);
+                let pools = state[POOLS..INERT]
+                    .iter()
+                    .fold(0u64, |sum, grams| sum.wrapping_add(*grams));
+                self.wild(&[bound.wrapping_sub(pools), bound, 0u64.wrapping_sub(pools)])
+            }
+            // A pool: beside what the ceiling leaves, or such that the sum wraps.
+            _ => {
+                let rest = state[POOLS..INERT]
+                    .iter()
+                    .fold(0u64, |sum, grams| sum.wrapping_add(*grams))
+                    .wrapping_sub(state[place]);
+                self.wild(&[1_000_000_000u64.wrapping_sub(rest), 0u64.wrapping_sub(rest)])
+            }
+        };
+    }
+
+    fn spoil_entries(&mut self, state: &StateNumbers, entries: &mut EntryNumbers) {
+        let place = self.draw.below(ENTRY_NUMBERS as u64) as usize;
+        entries[place] = match place {
+            TEMPERATURE => self.wild_signed(&[-400, 500, -50]),
+            RAIN | EVAPORATION => self.wild_signed(&[0, 20_000]),
+            COVER => self.wild_signed(&[0, 1]),
+            _ => {
+                let other = entries[PLANT + MANURE - place];
+                let pools = state[POOLS..INERT]
+                    .iter()
+                    .fold(0u64, |sum, grams| sum.wrapping_add(*grams));
+                let room = 1_000_000_000i64
+                    .wrapping_sub(pools as i64)
+                    .wrapping_sub(other)
+                    .clamp(i64::MIN + 1, i64::MAX - 1);
+                self.wild_signed(&[0, 100_000_000, room, room])
+            }
+        };
+    }
+
+    /// A month call: nothing faulty, or one or a few numbers made wild.
+    fn month_call(&mut self) -> Call {
+        let mut state = self.state();
+        let mut entries = self.entries(&state);
+        let faults = match self.draw.below(10) {
+            0..=5 => 0,
+            6..=7 => 1,
+            8 => 2,
+            _ => 1 + self.draw.below(6),
+        };
+        let mut turn = 0;
+        for _ in 0..faults {
+            match self.draw.below(20) {
+                0..=10 => self.spoil_state(&mut state),
+                11..=17 => self.spoil_entries(&state, &mut entries),
+                _ => turn = 1 + self.draw.below(6),
+            }
+        }
+        let next = state[MONTHS].wrapping_add(1);
+        let number = match turn {
+            0 => next,
+            1 => next.wrapping_sub(1),
+            2 => next.wrapping_add(1),
+            3 => next ^ (1 << 32),
+            4 => next ^ (1 << 63),
+            5 => self.pick(&[0, 1, u64::MAX, 120_000, 120_001]),
+            _ => self.draw.next(),
+        };
+        Call::Month {
+            state,
+            number,
+            entries,
+        }
+    }
+
+    // ---- Comparisons ----
+
+    /// The lines of the vectors over numbers, run here as well.
+    fn test_lines(&mut self) {
+        for group in crate::call_lines::groups() {
+            for line in &group.lines {
+                self.call(&line.call);
+                // Their answers are fixed, so they hold whatever S the program has.
+                let given = program_answer(self.program, &line.call, crate::calls::FILL);
+                let same = given.as_ref() == Ok(&line.answer);
+                self.outcome(same, || {
+                    let numbers = match &given {
+                        Ok(given) => difference(&line.answer, given),
+                        Err(text) => text.clone(),
+                    };
+                    format!("line:   {}\n{numbers}", line.call.line())
+                });
+            }
+        }
+        self.say("test lines over numbers".into());
+    }
+
+    /// Every temperature and every clay, with pools near the ceiling: A and R each show.
+    fn factors(&mut self) {
+        for clay in 0..=1000u64 {
+            let mut state = self.state();
+            state[CLAY] = clay;
+            state[DEFICIT] = self.sized(deficit_limit(&state));
+            let total = 1_000_000_000 - self.draw.below(1_000_000);
+            let pools = self.parts(total);
+            state[POOLS..INERT].copy_from_slice(&pools);
+            state[CO2] = 0;
+            let mut entries = self.entries(&state);
+            entries[TEMPERATURE] = (clay % 551) as i64 - 50;
+            self.call(&Call::Month {
+                state,
+                number: state[MONTHS] + 1,
+                entries,
+            });
+        }
+        self.say("every temperature from -50 to 500 and every clay".into());
+    }
+
+    /// Month calls: drawn ones, and chains of calls on one state.
+    fn months(&mut self, count: u64) {
+        let chained = count / 3;
+        for done in 0..count - chained {
+            let call = self.month_call();
+            self.call(&call);
+            if done % 20_000 == 19_999 {
+                self.say(format!("month calls: {}", done + 1));
+            }
+        }
+        let mut done = 0;
+        while done < chained {
+            let length = (10 + self.draw.below(300)).min(chained - done);
+            self.chain(length);
+            done += length;
+        }
+        self.say(format!("month calls: {count}, {chained} of them in chains"));
+    }
+
+    /// Calls on one state, each given the state that the last one returned.
+    fn chain(&mut self, length: u64) {
+        let mut state = if self.draw.below(2) == 0 {
+            let soil = self.soil();
+            match self.call(&Call::New { soil }) {
+                Some(state) => state,
+                None => return,
+            }
+        } else {
+            self.state()
+        };
+        for _ in 0..length {
+            let mut entries = self.entries(&state);
+            let mut number = state[MONTHS].wrapping_add(1);
+            match self.draw.below(12) {
+                0 => self.spoil_entries(&state, &mut entries),
+                1 => number = self.wild(&[number]),
+                _ => (),
+            }
+            match self.call(&Call::Month {
+                state,
+                number,
+                entries,
+            }) {
+                Some(next) => state = next,
+                None => return,
+            }
+        }
+    }
+
+    /// Weather rows and land rows as plain numbers, one in `faulty` of them wild.
+    fn row_numbers(&mut self, rows: usize, faulty: u64, weather: bool, largest: u64) -> Vec<i64> {
+        let mut numbers = Vec::with_capacity(rows * 3);
+        for _ in 0..rows {
+            let mut row = if weather {
+                self.weather()
+            } else {
+                let room = self.draw.below(largest + 1);
+                self.land(room)
+            };
+            if faulty > 0 && self.draw.below(faulty) == 0 {
+                let place = self.draw.below(3) as usize;
+                row[place] = match (weather, place) {
+                    (true, 0) => self.wild_signed(&[-400, 500]),
+                    (true, _) => self.wild_signed(&[0, 20_000]),
+                    (false, 0) => self.wild_signed(&[0, 1]),
+                    (false, _) => self.wild_signed(&[0, 100_000_000]),
+                };
+            }
+            numbers.extend(row);
+        }
+        numbers
+    }
+
+    /// A start for a list or spin-up.
+    fn start(&mut self) -> StateNumbers {
+        let mut state = self.state();
+        match self.draw.below(8) {
+            0 => state[MONTHS] = MONTH_LIMIT - self.draw.below(40),
+            1 => self.spoil_state(&mut state),
+            _ => (),
+        }
+        state
+    }
+
+    fn lists(&mut self, count: u64) {
+        for done in 0..count {
+            let long = done % 100 == 0;
+            let months = match self.draw.below(12) {
+                _ if long => self.pick(&[1_199, 1_200, 1_201, 1_200]),
+                0 => 0,
+                1 => 1,
+                _ => 1 + self.draw.below(60) as usize,
+            };
+            let rows = match self.draw.below(12) {
+                _ if long => self.pick(&[1, 12, 1_200, 1_201]),
+                0 => 0,
+                1 => 12,
+                _ => 1 + self.draw.below(20) as usize,
+            };
+            let faulty = match self.draw.below(3) {
+                0 => 1 + 2 * months as u64,
+                _ => 0,
+            };
+            let largest = self.pick(&[1_000, 1_000_000, 10_000_000, 200_000_000]);
+            let mut weather = self.row_numbers(rows, faulty, true, 0);
+            let mut land = self.row_numbers(months, faulty, false, largest);
+            if self.draw.below(30) == 0 {
+                let extra = self.draw.next() as i64;
+                match self.draw.below(4) {
+                    0 => weather.push(extra),
+                    1 => land.push(extra),
+                    2 => drop(weather.pop()),
+                    _ => drop(land.pop()),
+                }
+            }
+            let exact = months * OUTPUT_NUMBERS;
+            let output = match self.draw.below(12) {
+                0 => exact.saturating_sub(1),
+                1 => self.draw.below(exact as u64 + 1) as usize,
+                2 => exact + self.draw.below(30) as usize,
+                _ => exact,
+            };
+            let state = self.start();
+            self.call(&Call::List {
+                weather,
+                land,
+                output,
+                state,
+            });
+        }
+        self.say(format!("lists: {count}"));
+    }
+
+    fn spin_ups(&mut self, count: u64) {
+        for done in 0..count {
+            let mut rows = || match self.draw.below(16) {
+                0 => self.pick(&[0, 11, 13, 24]),
+                _ => 12,
+            };
+            let (skies, fields) = (rows(), rows());
+            let faulty = if self.draw.below(6) == 0 { 24 } else { 0 };
+            let largest = self.pick(&[0, 300, 100_000, 1_000_000, 50_000_000]);
+            let weather = self.row_numbers(skies, faulty, true, 0);
+            let land = self.row_numbers(fields, faulty, false, largest);
+            let years = match self.draw.below(10) {
+                0 => self.wild(&[1, 10_000]),
+                1 if done % 5 == 0 => 10_000,
+                _ => 1 + self.draw.below(120),
+            };
+            let mut state = self.start();
+            if self.draw.below(2) == 0 {
+                // Small pools settle, some of them late.
+                let total = self.draw.below(3_000_000);
+                let pools = self.parts(total);
+                state[POOLS..INERT].copy_from_slice(&pools);
+            }
+            self.call(&Call::SpinUp {
+                weather,
+                land,
+                years,
+                state,
+            });
+        }
+        self.say(format!("spin-ups: {count}"));
+    }
+
+    // ---- Books ----
+
+    /// One book with this much output memory.
+    fn book(&mut self, bytes: &[u8], room: Option<usize>) {
+        let mut faults = Vec::new();
+        let mut asked = Asked {
+            program: &mut *self.program,
+            known: &mut self.known,
+            faults: &mut faults,
+        };
+        let answer = book::read(bytes, &mut asked);
+        let text = book::write(&answer);
+        let room = room.unwrap_or(text.len() + self.draw.below(40) as usize);
+        let fill = self.draw.next() as u8;
+        let margin = 16;
+        let mut wanted = vec![fill; room + 2 * margin];
+        let wanted_number = match &answer {
+            // Too short for its text: 8, nothing written.
+            _ if room < text.len() => 8,
+            Answer::Ran { .. } => 0,
+            Answer::Refused(refusal) => refusal.cause.number() as u64,
+        };
+        if wanted_number != 8 {
+            wanted[margin..margin + text.len()].copy_from_slice(&text);
+        }
+        let mut given = vec![fill; room + 2 * margin];
+        let mut length = Lent::filled(fill as u64, 1);
+        let out = &mut given[margin..margin + room];
+        let given_number = self.program.book(bytes, out, &mut length.get()[0]);
+        let given_length = length.take().map(|numbers| numbers[0]);
+        *self.seen.entry(('B', wanted_number)).or_default() += 1;
+        let same = given == wanted
+            && given_number == wanted_number
+            && given_length == Ok(text.len() as u64)
+            && text.len() <= LONGEST_TEXT
+            && faults.is_empty();
+        self.outcome(same, || {
+            format!(
+                "book:   {}\nroom:   {room}\nnumber and length wanted {wanted_number} {}, given {given_number} {given_length:?}\nS: {faults:?}\nwanted: {}\ngiven:  {}",
+                shown(bytes),
+                text.len(),
+                shown(&wanted[..wanted.len().min(4_000)]),
+                shown(&given[..given.len().min(4_000)])
+            )
+        });
+    }
+
+    /// A book that nothing refuses, unless its pools reach the ceiling.
+    fn valid_book(&mut self) -> Vec<u8> {
+        let soil = self.soil();
+        let mut text = String::from("SOIL 1\n");
+        push_row(&mut text, &soil);
+        let (skies, fields) = match self.draw.below(40) {
+            0 => (12, 300),
+            1 => (300, 5),
+            _ => (1 + self.draw.below(14), 1 + self.draw.below(26)),
+        };
+        text += &format!("WEATHER {skies}\n");
+        for _ in 0..skies {
+            push_row(&mut text, &self.weather());
+        }
+        text += &format!("LAND {fields}\n");
+        let largest = self.pick(&[1_000, 1_000_000, 30_000_000]);
+        for _ in 0..fields {
+            let room = self.draw.below(largest + 1);
+            push_row(&mut text, &self.land(room));
+        }
+        text.into_bytes()
+    }
+
+    fn damage(&mut self, book: &mut Vec<u8>) {
+        const BYTES: &[u8] = b"0123456789 -\n\r\t+.SOILWEATHERAND\x00\x7f\x80\xffxs";
+        const VALUES: [&str; 32] = [
+            "0",
+            "1",
+            "2",
+            "3",
+            "4",
+            "-1",
+            "-0",
+            "00",
+            "01",
+            "+1",
+            "--5",
+            "",
+            "-",
+            "5 ",
+            "1.0",
+            "100",
+            "101",
+            "1000",
+            "1001",
+            "500",
+            "501",
+            "-400",
+            "-401",
+            "20000",
+            "20001",
+            "100000000",
+            "100000001",
+            "1000000000",
+            "1000000001",
+            "9999999999",
+            "10000000000",
+            "18446744073709551617",
+        ];
+        if book.is_empty() {
+            book.push(self.pick(BYTES));
+            return;
+        }
+        let place = self.draw.below(book.len() as u64) as usize;
+        let mut lines: Vec<Vec<u8>> = book
+            .split_inclusive(|byte| *byte == 10)
+            .map(<[u8]>::to_vec)
+            .collect();
+        let line = self.draw.below(lines.len() as u64) as usize;
+        let other = self.draw.below(lines.len() as u64) as usize;
+        match self.draw.below(16) {
+            0 => book[place] ^= 1 << self.draw.below(8),
+            1 => book[place] = self.pick(BYTES),
+            2 => book.truncate(place),
+            3 => {
+                let end = (place + 1 + self.draw.below(9) as usize).min(book.len());
+                drop(book.drain(place..end));
+            }
+            4 => book.insert(place, self.pick(BYTES)),
+            5 => {
+                let again = lines[line].clone();
+                lines.insert(line, again);
+                *book = lines.concat();
+            }
+            6 => {
+                lines.remove(line);
+                *book = lines.concat();
+            }
+            7 => {
+                lines.swap(line, other);
+                *book = lines.concat();
+            }
+            8 => {
+                let end = (place + self.draw.below(40) as usize).min(book.len());
+                let copy = book[place..end].to_vec();
+                let to = self.draw.below(book.len() as u64) as usize;
+                drop(book.splice(to..to, copy));
+            }
+            9 => book.extend(std::iter::repeat_n(
+                self.pick(BYTES),
+                1 + self.draw.below(3) as usize,
+            )),
+            // A head's count.
+            10 | 11 => {
+                let heads: Vec<usize> = (0..lines.len())
+                    .filter(|index| lines[*index].first().is_some_and(u8::is_ascii_uppercase))
+                    .collect();
+                if heads.is_empty() {
+                    return;
+                }
+                let head = self.pick(&heads);
+                let text = String::from_utf8_lossy(&lines[head]).into_owned();
+                let mut words: Vec<String> = text.trim().split(' ').map(str::to_string).collect();
+                let count: i64 = words.last().and_then(|word| word.parse().ok()).unwrap_or(1);
+                let count = match self.draw.below(3) {
+                    0 => (count + 1).to_string(),
+                    1 => (count - 1).to_string(),
+                    _ => self
+                        .pick(&["0", "1", "2", "1200", "1201", "9999999999", "03", "-1", ""])
+                        .to_string(),
+                };
+                *words.last_mut().unwrap() = count;
+                lines[head] = (words.join(" ") + "\n").into_bytes();
+                *book = lines.concat();
+            }
+            // A value.
+            _ => {
+                let text = String::from_utf8_lossy(&lines[line]).into_owned();
+                let mut words: Vec<&str> = text.trim_end_matches('\n').split(' ').collect();
+                let word = self.draw.below(words.len() as u64) as usize;
+                words[word] = self.pick(&VALUES);
+                lines[line] = (words.join(" ") + "\n").into_bytes();
+                *book = lines.concat();
+            }
+        }
+    }
+
+    fn books(&mut self, count: u64) {
+        let shelf: Vec<Vec<u8>> = vectors().into_iter().map(|vector| vector.book).collect();
+        for book in &shelf {
+            self.book(book, None);
+        }
+        for size in [65_535, 65_536, 65_537, 65_538, 100_000] {
+            let mut book = shelf[0].clone();
+            book.resize(size, b'0');
+            self.book(&book, None);
+        }
+        let small: Vec<&Vec<u8>> = shelf.iter().filter(|book| book.len() < 3_000).collect();
+        for done in 0..count {
+            let mut book = match self.draw.below(4) {
+                0 => small[self.draw.below(small.len() as u64) as usize].clone(),
+                _ => self.valid_book(),
+            };
+            let damages = match self.draw.below(10) {
+                0 => 0,
+                1..=6 => 1,
+                7 | 8 => 2,
+                _ => 3 + self.draw.below(5),
+            };
+            for _ in 0..damages {
+                self.damage(&mut book);
+            }
+            self.book(&book, None);
+            if done % 10 == 0 {
+                self.short_outputs(&book);
+            }
+            if done % 2_000 == 1_999 {
+                self.say(format!("damaged books: {}", done + 1));
+            }
+        }
+    }
+
+    /// Output memory too short by one byte, by any, and none at all; and just enough.
+    fn short_outputs(&mut self, book: &[u8]) {
+        let mut asked = Asked {
+            program: &mut *self.program,
+            known: &mut self.known,
+            faults: &mut Vec::new(),
+        };
+        let length = book::run(book, &mut asked).len();
+        let less = self.draw.below(length as u64) as usize;
+        for room in [length - 1, less, 0, length] {
+            self.book(book, Some(room));
+        }
+    }
+
+    // ---- Wrong lengths ----
+
+    /// Lent memory of a fixed layout with another length: 100, and nothing written, whatever the
+    /// numbers in it. And n or a pool for which there is no survival number.
+    fn wrong_lengths(&mut self) {
+        for round in 0..40 {
+            let mut state = self.state();
+            let mut entries = self.entries(&state);
+            let mut rows_each = (12, 12);
+            if round % 2 == 1 {
+                self.spoil_state(&mut state);
+                self.spoil_entries(&state, &mut entries);
+                rows_each = (self.draw.below(14) as usize, self.draw.below(14) as usize);
+            }
+            let weather = self.row_numbers(rows_each.0, 20, true, 0);
+            let land = self.row_numbers(rows_each.1, 20, false, 1_000);
+            for length in [0, 1, 2, 3, 5, 6, 7, 8, 9, 10, 11, 12, 13, 22, 100] {
+                let numbers: Vec<u64> = state.iter().cycle().take(length).copied().collect();
+                let signed: Vec<i64> = entries.iter().cycle().take(length).copied().collect();
+                let number = state[MONTHS].wrapping_add(1);
+                let fill = self.draw.next();
+                // Which memory has the wrong length.
+                for which in 0..8 {
+                    let right = match which {
+                        0 => SOIL_NUMBERS,
+                        3 => ENTRY_NUMBERS,
+                        4 => OUTPUT_NUMBERS,
+                        7 => 2,
+                        _ => STATE_NUMBERS,
+                    };
+                    if length == right {
+                        continue;
+                    }
+                    let soil = &state[..SOIL_NUMBERS];
+                    let mut own = Lent::new(&state);
+                    let mut given = Lent::new(&numbers);
+                    let mut row = Lent::filled(fill, OUTPUT_NUMBERS);
+                    let mut rows = Lent::filled(fill, 84);
+                    let mut place = Lent::filled(fill, 1);
+                    let mut result = Lent::filled(fill, 2);
+                    let program = &mut *self.program;
+                    let answer = match which {
+                        0 => program.start(&numbers, own.get()),
+                        1 => program.start(soil, given.get()),
+                        2 => program.month(given.get(), number, &entries, row.get()),
+                        3 => program.month(own.get(), number, &signed, row.get()),
+                        4 => program.month(own.get(), number, &entries, given.get()),
+                        5 => {
+                            let place = &mut place.get()[0];
+                            program.list(given.get(), &weather, &land, rows.get(), place)
+                        }
+                        6 => program.spin_up(given.get(), &weather, &land, 2, result.get()),
+                        _ => program.spin_up(own.get(), &weather, &land, 2, given.get()),
+                    };
+                    let same = answer == WRONG_LENGTH
+                        && own.take() == Ok(&state)
+                        && given.take() == Ok(&numbers)
+                        && row.take() == Ok(&[fill; OUTPUT_NUMBERS])
+                        && rows.take() == Ok(&[fill; 84])
+                        && place.take() == Ok(&[fill])
+                        && result.take() == Ok(&[fill; 2]);
+                    self.outcome(same, || {
+                        format!(
+                            "length {length} for memory {which}: {answer}, state {state:?}, entries {entries:?}, {given:?} {row:?} {place:?} {result:?}"
+                        )
+                    });
+                }
+            }
+        }
+        for n in [0, 1, LARGEST_N, LARGEST_N + 1, u64::MAX, 1 << 63, 1 << 34] {
+            for pool in [0, 1, 2, 3, 4, 5, 1 << 32, u64::MAX] {
+                let s = self.program.survival(n, pool);
+                let same = if pool > 3 || n > LARGEST_N {
+                    s == NO_SURVIVAL
+                } else {
+                    within(s, n, RATES[pool as usize], 1)
+                };
+                self.outcome(same, || format!("S of n {n} pool {pool}: {s}"));
+            }
+        }
+        self.say("wrong lengths".into());
+    }
+
+    // ---- Demand 3 ----
+
+    /// Chains of some 30 calls against the recurrence in fractions.
+    fn short_chains(&mut self) {
+        for round in 0..30 {
+            let soil = self.soil();
+            let Some(mut state) = self.new_state(soil) else {
+                return;
+            };
+            let mut answered = Vec::new();
+            for _ in 0..self.draw.below(40) {
+                let mut entries = self.entries(&state);
+                let mut number = state[MONTHS].wrapping_add(1);
+                match self.draw.below(8) {
+                    0 => self.spoil_entries(&state, &mut entries),
+                    1 => number = self.wild(&[number]),
+                    _ => (),
+                }
+                let call = Call::Month {
+                    state,
+                    number,
+                    entries,
+                };
+                let Some(next) = self.call(&call) else { return };
+                // The number isn't among the results here: an accepted month adds 1.
+                answered.push(Answered {
+                    entries: entries_of(&entries),
+                    accepted: next[MONTHS] != state[MONTHS],
+                });
+                state = next;
+            }
+            let (soil, last) = (soil_of(&soil), state_of(&state));
+            let closes = carbon_closes(&soil, &answered, &last);
+            self.outcome(closes, || {
+                format!("demand 3 (a): {soil:?} {answered:?} {last:?}")
+            });
+            let turns: [u64; 3] = [0, 8, self.draw.next()];
+            for turn in turns {
+                let mut faults = Vec::new();
+                let mut asked = Asked {
+                    program: &mut *self.program,
+                    known: &mut self.known,
+                    faults: &mut faults,
+                };
+                let mut mix = Draw::new(turn ^ round);
+                // In sevenths of a billionth, all at one end or at random.
+                let mut q = |_: u64, _: usize, s: u64| {
+                    let shift = match turn {
+                        0 => -28,
+                        8 => 28,
+                        _ => mix.between(-28, 28) as i128,
+                    };
+                    let top = (s as i128 * 7 + shift).clamp(0, 7 * BILLION as i128);
+                    Fraction::of(top, 7 * BILLION as u128)
+                };
+                let decision = distance_exact(&soil, &answered, &last, &mut asked, &mut q);
+                let same = decision == Decision::Holds && faults.is_empty();
+                self.outcome(same, || {
+                    format!("demand 3 (b), turn {turn}: {soil:?} {answered:?} {last:?} {faults:?}")
+                });
+            }
+        }
+        self.say("demand 3 on short chains, in fractions".into());
+    }
+
+    /// The next entries of a long chain.
+    fn hostile_entries(&mut self, state: &StateNumbers, plan: Plan) -> EntryNumbers {
+        const MOST: u64 = 100_000_000;
+        let room = 1_000_000_000u64.saturating_sub(active(state));
+        let mut entries = self.entries(state);
+        let full = |entries: &mut EntryNumbers, first: usize, second: usize| {
+            entries[first] = room.min(MOST) as i64;
+            entries[second] = (room - entries[first] as u64).min(MOST) as i64;
+        };
+        match plan {
+            Plan::Frost => {
+                entries[TEMPERATURE] = self.draw.between(-400, -51);
+                // 22 g of kind 1 and 99 g of manure round off most: 36 x 22 is 60 over a multiple
+                // of 61, 49 x 99 is 51 and 2 x 99 is 98 over a multiple of 100.
+                (entries[PLANT], entries[MANURE]) = (22, 99);
+            }
+            Plan::Thaw => {
+                entries[TEMPERATURE] = self.draw.between(-50, -45);
+                (entries[RAIN], entries[EVAPORATION], entries[COVER]) = (0, 20_000, 1);
+                full(&mut entries, PLANT, MANURE);
+            }
+            Plan::Mixed => match state[MONTHS] / 500 % 6 {
+                // Full to the ceiling, in great heat.
+                0 => {
+                    entries[TEMPERATURE] = self.draw.between(300, 500);
+                    (entries[RAIN], entries[COVER]) = (20_000, 0);
+                    full(&mut entries, PLANT, MANURE);
+                }
+                // Full, cool.
+                1 => {
+                    entries[TEMPERATURE] = self.draw.between(-50, 60);
+                    full(&mut entries, PLANT, MANURE);
+                }
+                // Full, by manure first.
+                2 => full(&mut entries, MANURE, PLANT),
+                // A farm.
+                3 => {
+                    entries[TEMPERATURE] = self.draw.between(-20, 220);
+                    entries[PLANT] = room.min(self.draw.below(1_200_000)) as i64;
+                    entries[MANURE] = 0;
+                }
+                // Frost.
+                4 => {
+                    entries[TEMPERATURE] = self.draw.between(-400, -51);
+                    full(&mut entries, PLANT, MANURE);
+                }
+                _ => (),
+            },
+        }
+        entries
+    }
+
+    /// Demand 3 on one list with so many accepted calls and refused ones among them: (a), and (b)
+    /// in rigorous intervals at hostile q: each pool 4 billionths up or down in all 16 ways, in the
+    /// direction that drives each pool further from the program's, at random, and all q at once.
+    fn long_chain(&mut self, length: u64, plan: Plan) {
+        let mut soil = self.soil();
+        let pools = match plan {
+            Plan::Frost => [0, 985_000_000, 0, 0],
+            Plan::Thaw => [0, 300_000_000, 0, 700_000_000],
+            Plan::Mixed => self.parts(1_000_000_000),
+        };
+        soil[POOLS..INERT].copy_from_slice(&pools);
+        if matches!(plan, Plan::Frost) {
+            soil[KIND] = 1;
+        }
+        let Some(mut state) = self.new_state(soil) else {
+            return;
+        };
+        let soil = soil_of(&soil);
+        // 0 to 15: by pattern; 16: apart; 17: random ends; 18: random; 19: S itself; 20: every q.
+        const RUNS: usize = 21;
+        const BELOW: u64 = 7 * BILLION;
+        let mut runs: Vec<Enclosure> = (0..RUNS).map(|_| Enclosure::new(&soil)).collect();
+        let mut answered = Vec::new();
+        let mut accepted = 0;
+        let mut refused_in_turn = 0;
+        // The largest distance a call, in thousandths of a gram, at one q and at every q.
+        let mut largest = [0u128; 2];
+        while accepted < length && refused_in_turn < 1_000 {
+            let mut entries = self.hostile_entries(&state, plan);
+            let mut number = state[MONTHS].wrapping_add(1);
+            match self.draw.below(40) {
+                // In frost nothing makes room again: what is spoilt must be refused.
+                0 if matches!(plan, Plan::Frost) => entries[MANURE] = 1_000_000_000,
+                0 => self.spoil_entries(&state, &mut entries),
+                1 => number = self.wild(&[number]),
+                _ => (),
+            }
+            let Some(next) = self.call(&Call::Month {
+                state,
+                number,
+                entries,
+            }) else {
+                return;
+            };
+            let entries = entries_of(&entries);
+            let took = next[MONTHS] != state[MONTHS];
+            answered.push(Answered {
+                entries,
+                accepted: took,
+            });
+            state = next;
+            if !took {
+                refused_in_turn += 1;
+                continue;
+            }
+            refused_in_turn = 0;
+            accepted += 1;
+            // N is the recurrence's own.
+            let n = runs[0].n(&entries);
+            let mut faults = Vec::new();
+            let mut asked = Asked {
+                program: &mut *self.program,
+                known: &mut self.known,
+                faults: &mut faults,
+            };
+            let s: [u64; 4] = RATES.map(|k| asked.survival(n, k));
+            let (low, high) = (s.map(|s| 7 * q_lowest(s)), s.map(|s| 7 * q_highest(s)));
+            for (index, run) in runs.iter_mut().enumerate() {
+                let q: [(u64, u64); 4] = std::array::from_fn(|pool| {
+                    let ends = [low[pool], high[pool]];
+                    let one = match index {
+                        0..=15 => ends[index >> pool & 1],
+                        16 => {
+                            let program = (state[POOLS + pool] as u128) << 64;
+                            ends[usize::from(run.pools[pool].low >= program)]
+                        }
+                        17 => ends[self.draw.below(2) as usize],
+                        18 => ends[0] + self.draw.below(ends[1] - ends[0] + 1),
+                        19 => 7 * s[pool],
+                        _ => return (ends[0], ends[1]),
+                    };
+                    (one, one)
+                });
+                run.accept(&entries, &q, BELOW);
+            }
+            if !faults.is_empty() {
+                self.outcome(false, || format!("S: {faults:?}"));
+            }
+            // Each start of the list is such a list too.
+            if accepted % 500 == 0 || accepted == length || accepted < 50 {
+                let grams = std::array::from_fn(|pool| state[POOLS + pool]);
+                for (index, run) in runs.iter().enumerate() {
+                    let holds = run.decide(&grams) == Decision::Holds;
+                    self.outcome(holds, || {
+                        format!("demand 3 (b), {plan:?}, q {index}, after {accepted} accepted: {soil:?}, {state:?}")
+                    });
+                    let most = run.distance(&grams).1.to_u128().unwrap_or(u128::MAX);
+                    let a_call = (most >> 32) * 1_000 / accepted as u128 >> 32;
+                    let largest = &mut largest[index / 20];
+                    *largest = a_call.max(*largest);
+                }
+                let last = state_of(&state);
+                let closes = carbon_closes(&soil, &answered, &last);
+                self.outcome(closes, || {
+                    format!(
+                        "demand 3 (a), {plan:?}, after {accepted} accepted: {soil:?}, {state:?}"
+                    )
+                });
+            }
+            if accepted % 40_000 == 0 || accepted == length {
+                self.say(format!(
+                    "long chain ({plan:?}): {accepted} accepted of {} calls, distance up to {} thousandths of a gram a call, all q at once {} (20000 allowed)",
+                    answered.len(), largest[0], largest[1]
+                ));
+            }
+        }
+        self.outcome(accepted == length, || {
+            format!("the long chain stopped after {accepted} accepted: {state:?}")
+        });
+    }
+}
+
+fn push_row<T: ToString>(text: &mut String, row: &[T]) {
+    let words: Vec<String> = row.iter().map(T::to_string).collect();
+    text.push_str(&words.join(" "));
+    text.push('\n');
+}
+
+fn deficit_limit(state: &[u64]) -> u64 {
+    soil_of(state).deficit_limit() as u64
+}
+
+fn active(state: &StateNumbers) -> u64 {
+    state[POOLS..INERT]
+        .iter()
+        .fold(0u64, |sum, grams| sum.saturating_add(*grams))
+}
+
+#[cfg(test)]
+mod tests {
+    use super::*;
+    use crate::exponential::survival_floor;
+
+    /// The reference itself with S rounded down, and on request with a slip.
+    struct Own {
+        slip: &'static str,
+    }
+
+    impl Own {
+        fn answer(&self, call: &Call) -> Vec<u64> {
+            let far = self.slip == "S two off";
+            let mut survival = |n: u64, k: u64| own_survival(n, k, far);
+            call.answer(GUARD, &mut survival, &mut |_, _| ())
+        }
+    }
+
+    fn own_survival(n: u64, k: u64, far: bool) -> u64 {
+        let floor = survival_floor(n, k);
+        if far && n % 1_000 == 0 {
+            floor.saturating_sub(2)
+        } else {
+            floor
+        }
+    }
+
+    /// Writes what the answer has written.
+    fn write(to: &mut [u64], from: &[u64]) {
+        for (to, from) in to.iter_mut().zip(from) {
+            if *from != GUARD {
+                *to = *from;
+            }
+        }
+    }
+
+    impl Program for Own {
+        fn start(&mut self, soil: &[u64], state: &mut [u64]) -> u64 {
+            let (Ok(soil), 11) = (soil.try_into(), state.len()) else {
+                return WRONG_LENGTH;
+            };
+            let answer = self.answer(&Call::New { soil });
+            write(state, &answer[1..]);
+            answer[0]
+        }
+
+        fn month(
+            &mut self,
+            state: &mut [u64],
+            number: u64,
+            entries: &[i64],
+            row: &mut [u64],
+        ) -> u64 {
+            if self.slip == "length" && row.len() == 8 {
+                row[7] = 1;
+            }
+            let (Ok(lent), Ok(entries), 7) = (
+                <StateNumbers>::try_from(&*state),
+                <EntryNumbers>::try_from(entries),
+                row.len(),
+            ) else {
+                return WRONG_LENGTH;
+            };
+            let answer = self.answer(&Call::Month {
+                state: lent,
+                number,
+                entries,
+            });
+            write(row, &answer[1..8]);
+            write(state, &answer[8..]);
+            if self.slip == "a gram" && answer[0] == 0 && lent[CLAY] == 77 {
+                state[CO2] += 1;
+            }
+            if self.slip == "refused row" && answer[0] == 17 {
+                row[0] = lent[POOLS];
+            }
+            if self.slip == "order" && answer[0] == 11 && lent[MONTHS] == 120_000 {
+                return 12;
+            }
+            answer[0]
+        }
+
+        fn list(
+            &mut self,
+            state: &mut [u64],
+            weather: &[i64],
+            land: &[i64],
+            rows: &mut [u64],
+            place: &mut u64,
+        ) -> u64 {
+            let Ok(lent) = <StateNumbers>::try_from(&*state) else {
+                return WRONG_LENGTH;
+            };
+            let answer = self.answer(&Call::List {
+                weather: weather.to_vec(),
+                land: land.to_vec(),
+                output: rows.len(),
+                state: lent,
+            });
+            *place = answer[1];
+            write(state, &answer[2..13]);
+            write(rows, &answer[13..]);
+            if self.slip == "rest" && answer[0] == 0 && rows.len() > land.len() / 3 * 7 {
+                *rows.last_mut().unwrap() ^= 1;
+            }
+            answer[0]
+        }
+
+        fn spin_up(
+            &mut self,
+            state: &mut [u64],
+            weather: &[i64],
+            land: &[i64],
+            years: u64,
+            result: &mut [u64],
+        ) -> u64 {
+            let (Ok(lent), 2) = (<StateNumbers>::try_from(&*state), result.len()) else {
+                return WRONG_LENGTH;
+            };
+            let answer = self.answer(&Call::SpinUp {
+                weather: weather.to_vec(),
+                land: land.to_vec(),
+                years,
+                state: lent,
+            });
+            result.copy_from_slice(&answer[1..3]);
+            write(state, &answer[3..]);
+            answer[0]
+        }
+
+        fn book(&mut self, book: &[u8], out: &mut [u8], length: &mut u64) -> u64 {
+            let far = self.slip == "S two off";
+            let answer = book::read(book, &mut |n, k| own_survival(n, k, far));
+            let text = book::write(&answer);
+            *length = text.len() as u64;
+            if text.len() > out.len() {
+                return 8;
+            }
+            out[..text.len()].copy_from_slice(&text);
+            let number = match answer {
+                Answer::Ran { .. } => 0,
+                Answer::Refused(refusal) => refusal.cause.number() as u64,
+            };
+            if self.slip == "line" && number == 17 {
+                out[text.len() - 2] ^= 1;
+            }
+            number
+        }
+
+        fn survival(&mut self, n: u64, pool: u64) -> u64 {
+            if pool > 3 || n > LARGEST_N {
+                return NO_SURVIVAL;
+            }
+            own_survival(n, RATES[pool as usize], self.slip == "S two off")
+        }
+    }
+
+    fn compare(slip: &'static str) -> (u64, u64, HashMap<(char, u64), u64>) {
+        let mut own = Own { slip };
+        let mut quiet = |_: &str| ();
+        let mut differ = Differ::new(&mut own, 5, &mut quiet);
+        differ.run(&Counts {
+            months: 9_000,
+            lists: 200,
+            spin_ups: 30,
+            books: 1_000,
+            chain: 1_500,
+        });
+        if slip.is_empty() {
+            assert!(differ.first.is_empty(), "{}", differ.first[0]);
+        }
+        (differ.compared, differ.differ, differ.seen)
+    }
+
+    #[test]
+    fn nothing_differs_and_everything_is_reached() {
+        let (compared, differ, seen) = compare("");
+        assert_eq!(differ, 0);
+        assert!(compared > 15_000);
+        let wanted: [(char, &[u64]); 5] = [
+            ('N', &[0, 4, 5, 6, 7]),
+            ('M', &[0, 4, 5, 6, 7, 10, 11, 12, 13, 14, 15, 16, 17]),
+            ('L', &[0, 3, 4, 5, 6, 7, 8, 10, 12, 13, 14, 15, 16, 17]),
+            ('S', &[0, 3, 4, 5, 6, 7, 9, 10, 12, 13, 14, 15, 16, 17]),
+            ('B', &[0, 1, 2, 3, 4, 5, 6, 7, 8, 13, 14, 15, 16, 17]),
+        ];
+        for (letter, numbers) in wanted {
+            for number in numbers {
+                assert!(seen.contains_key(&(letter, *number)), "{letter} {number}");
+            }
+        }
+    }
+
+    #[test]
+    fn slips_differ() {
+        for slip in [
+            "S two off",
+            "a gram",
+            "refused row",
+            "order",
+            "rest",
+            "line",
+            "length",
+        ] {
+            let (_, differ, _) = compare(slip);
+            assert!(differ > 0, "{slip}");
+        }
+    }
+}

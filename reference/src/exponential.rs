@@ -1,0 +1,506 @@
+//! Steps 1, 2 and 4: everything that needs e^(-w). Whole numbers decide, never a float.
+//!
+//! The one fact used: for a fraction w of 0 or more, e^(-w) lies at or below each sum
+//! 1 - w + w²/2 - ... that ends on a plus term and at or above each that ends on a minus term.
+
+use crate::big::{Integer, Natural};
+use crate::fraction::Fraction;
+use std::cmp::Ordering;
+use std::sync::OnceLock;
+
+/// Parts of a survival number: 1,000,000,000 is the whole pool.
+pub const BILLION: u64 = 1_000_000_000;
+
+/// w = N × K / this.
+pub const EXPONENT_PARTS: u64 = 1_200_000_000_000;
+
+/// The sums of the series for e^(-w), one term more with each `advance`.
+pub struct Sums {
+    p: Natural,
+    q: Natural,
+    power: Natural,
+    sum: Integer,
+    denominator: Natural,
+    term: u64,
+}
+
+impl Sums {
+    /// The sum with the one term 1. w must not be negative.
+    pub fn new(w: &Fraction) -> Sums {
+        assert!(!w.numerator.is_negative(), "w is 0 or more");
+        Sums {
+            p: w.numerator.magnitude().clone(),
+            q: w.denominator.clone(),
+            power: Natural::one(),
+            sum: Integer::from(1),
+            denominator: Natural::one(),
+            term: 0,
+        }
+    }
+
+    /// Takes in the next term: over the denominator q^m × m! it is p^m.
+    pub fn advance(&mut self) {
+        self.term += 1;
+        let step = self.q.mul_u64(self.term);
+        self.power = self.power.mul(&self.p);
+        self.denominator = self.denominator.mul(&step);
+        let term = Integer::new(self.term % 2 == 1, self.power.clone());
+        self.sum = self.sum.mul_natural(&step).add(&term);
+    }
+
+    pub fn ends_on_plus(&self) -> bool {
+        self.term % 2 == 0
+    }
+
+    pub fn value(&self) -> Fraction {
+        Fraction::new(self.sum.clone(), self.denominator.clone())
+    }
+
+    pub fn term(&self) -> u64 {
+        self.term
+    }
+}
+
+/// below <= e^(-w) <= above: two neighbouring sums.
+#[derive(Clone, Debug)]
+pub struct Bracket {
+    pub below: Fraction,
+    pub above: Fraction,
+}
+
+/// The sums that end on term `last` (made even) and on the minus term after it.
+pub fn bracket(w: &Fraction, last: u64) -> Bracket {
+    let mut sums = Sums::new(w);
+    while sums.term < last || !sums.ends_on_plus() {
+        sums.advance();
+    }
+    let above = sums.value();
+    sums.advance();
+    Bracket {
+        below: sums.value(),
+        above,
+    }
+}
+
+/// Narrows the bracket until `read` says the same at both ends.
+/// `read` must be monotone (rising or falling) in its argument, so what it says
+/// at both ends holds for every number between them, e^(-w) included.
+fn decide<T: PartialEq>(w: &Fraction, read: impl Fn(&Fraction) -> T) -> T {
+    let mut sums = Sums::new(w);
+    // Past 2w terms each is less than half of the one before it.
+    let size = w.floor().magnitude().to_u64().expect("w is small");
+    let enough = 2 * size + 24;
+    loop {
+        while sums.term < enough || !sums.ends_on_plus() {
+            sums.advance();
+        }
+        let above = sums.value();
+        sums.advance();
+        let below = sums.value();
+        if !below.numerator.is_negative() {
+            let answer = read(&below);
+            if answer == read(&above) {
+                return answer;
+            }
+        }
+    }
+}
+
+/// The whole number nearest to numerator / denominator, halves up.
+fn nearest_whole(numerator: &Natural, denominator: &Natural) -> u64 {
+    let twice = denominator.mul_u64(2);
+    numerator
+        .mul_u64(2)
+        .add(denominator)
+        .div_rem(&twice)
+        .0
+        .to_u64()
+        .expect("a small quotient")
+}
+
+/// Step 1 for T from -50 to 500, straight from the bracket.
+/// u = 10,606 / (10 T + 1,827); with x = e^(-u) the number is 479,100 × x / (x + 1), rising in x.
+pub fn temperature_from_series(temperature: i64) -> u64 {
+    assert!((-50..=500).contains(&temperature));
+    let u = Fraction::of(10_606, (10 * temperature + 1_827) as u128);
+    decide(&u, |x| {
+        let top = x.numerator.magnitude();
+        nearest_whole(&top.mul_u64(479_100), &top.add(&x.denominator))
+    })
+}
+
+/// Step 2, straight from the bracket.
+/// 1 + z = (40,895 + 26,720 × x) / 10,000 with x = e^(-786 C / 100,000); the number falls in x.
+pub fn clay_from_series(clay: i64) -> u64 {
+    assert!((0..=1000).contains(&clay));
+    let w = Fraction::of(786 * clay as i128, 100_000);
+    decide(&w, |x| {
+        let top = x.denominator.mul(&Natural::from(10_000_000_000u64));
+        let bottom = x
+            .denominator
+            .mul_u64(40_895)
+            .add(&x.numerator.magnitude().mul_u64(26_720));
+        nearest_whole(&top, &bottom)
+    })
+}
+
+/// Step 1: A for T up to 500; 0 below -50.
+pub fn temperature_factor(temperature: i64) -> u64 {
+    static TABLE: OnceLock<Vec<u64>> = OnceLock::new();
+    if temperature < -50 {
+        return 0;
+    }
+    let table = TABLE.get_or_init(|| (-50..=500).map(temperature_from_series).collect());
+    table[usize::try_from(temperature + 50).unwrap()]
+}
+
+/// Step 2: R for C from 0 to 1000.
+pub fn clay_factor(clay: i64) -> u64 {
+    static TABLE: OnceLock<Vec<u64>> = OnceLock::new();
+    let table = TABLE.get_or_init(|| (0..=1000).map(clay_from_series).collect());
+    table[usize::try_from(clay).unwrap()]
+}
+
+// ---- Step 4 ----
+
+const POINT: u32 = 72;
+
+/// A bracket of 2^72 × e^(-w), w = product / 1,200,000,000,000 of at most 8, in whole numbers.
+///
+/// Rigorous: `low` and `high` enclose each term w^m / m! × 2^72. From one term to the next the
+/// enclosure is multiplied by product / (1,200,000,000,000 × m), `low` rounded down and `high`
+/// up. A sum ending on a minus term is at least the low plus terms less the high minus terms,
+/// one ending on a plus term at most the high plus terms less the low minus terms.
+/// Terms are at most 8^8 / 8! < 2^9, so high × product < 2^(81 + 44) fits in 128 bits
+/// (and the build checks for overflow).
+fn point_bracket(product: u128) -> (i128, i128) {
+    let (mut low, mut high) = (1u128 << POINT, 1u128 << POINT);
+    let (mut plus_low, mut plus_high) = (low, high);
+    let (mut minus_low, mut minus_high) = (0u128, 0u128);
+    let mut term = 0u128;
+    loop {
+        // A minus term, then a plus term.
+        term += 1;
+        let divisor = EXPONENT_PARTS as u128 * term;
+        low = low * product / divisor;
+        high = (high * product).div_ceil(divisor);
+        minus_low += low;
+        minus_high += high;
+        let below = plus_low as i128 - minus_high as i128;
+        term += 1;
+        let divisor = EXPONENT_PARTS as u128 * term;
+        low = low * product / divisor;
+        high = (high * product).div_ceil(divisor);
+        plus_low += low;
+        plus_high += high;
+        let above = plus_high as i128 - minus_low as i128;
+        // Enough once a term is at most one unit; any stop would be sound.
+        if high <= 1 {
+            return (below, above);
+        }
+    }
+}
+
+fn exponent(n: u64, k: u64) -> Fraction {
+    Fraction::new(
+        Integer::from(Natural::from(n as u128 * k as u128)),
+        Natural::from(EXPONENT_PARTS),
+    )
+}
+
+/// x = factor × e^(-w) for w above 0: the whole number f with f < x < f + 1.
+/// (e^(-w) is irrational, so x is never whole; both ends of the bracket must agree strictly.)
+fn open_floor(n: u64, k: u64, factor: u64) -> u64 {
+    let product = n as u128 * k as u128;
+    assert!(product > 0);
+    if product > 30 * EXPONENT_PARTS as u128 {
+        // e^(-w) falls in w, and 2,000,000,000 × e^(-30) is below 1 (tested from its bracket).
+        assert!(factor <= 2 * BILLION);
+        return 0;
+    }
+    if product <= 8 * EXPONENT_PARTS as u128 {
+        let (below, above) = point_bracket(product);
+        if below > 0 {
+            let one = 1u128 << POINT;
+            let low = below as u128 * factor as u128;
+            let high = above as u128 * factor as u128;
+            let floor = low / one;
+            if low % one > 0 && high < (floor + 1) * one {
+                return floor as u64;
+            }
+        }
+    }
+    open_floor_by_sums(n, k, factor)
+}
+
+/// The same from the paper's sums alone, in fractions.
+fn open_floor_by_sums(n: u64, k: u64, factor: u64) -> u64 {
+    let (floor, whole) = decide(&exponent(n, k), |x| {
+        let (floor, rest) = x.mul_whole(factor).numerator.div_rem_floor(&x.denominator);
+        (floor, rest.is_zero())
+    });
+    assert!(!whole);
+    floor.magnitude().to_u64().expect("a small floor")
+}
+
+/// 1,000,000,000 × e^(-w) rounded down.
+pub fn survival_floor(n: u64, k: u64) -> u64 {
+    if n == 0 || k == 0 {
+        return BILLION;
+    }
+    open_floor(n, k, BILLION)
+}
+
+/// The survival number nearest to 1,000,000,000 × e^(-w).
+pub fn survival_nearest(n: u64, k: u64) -> u64 {
+    if n == 0 || k == 0 {
+        return BILLION;
+    }
+    // Half of the doubled number, rounded up: floor(2x) is 2f or 2f + 1.
+    open_floor(n, k, 2 * BILLION).div_ceil(2)
+}
+
+/// Step 4: the lowest and the highest survival number at most `distance` from the exact one.
+/// Every whole number between them is one too. At w = 0 only 1,000,000,000.
+pub fn survival_range(n: u64, k: u64, distance: u64) -> (u64, u64) {
+    if n == 0 || k == 0 {
+        return (BILLION, BILLION);
+    }
+    // f < x < f + 1: the whole numbers within d of x run from f + 1 - d to f + d.
+    let floor = survival_floor(n, k);
+    (
+        (floor + 1).saturating_sub(distance),
+        (floor + distance).min(BILLION),
+    )
+}
+
+/// The numbers that step 4 allows: at most 3 from.
+pub fn allowed_range(n: u64, k: u64) -> (u64, u64) {
+    survival_range(n, k, 3)
+}
+
+/// Is s at most d from 1,000,000,000 × e^(-w), from 0 to 1,000,000,000, and exact at w = 0?
+pub fn within(s: u64, n: u64, k: u64, d: u64) -> bool {
+    let (lowest, highest) = survival_range(n, k, d);
+    (lowest..=highest).contains(&s)
+}
+
+/// Does step 4 allow s?
+pub fn allowed(s: u64, n: u64, k: u64) -> bool {
+    within(s, n, k, 3)
+}
+
+/// The paper's words, sum by sum, up to the given last term: s - d passes no sum that ends on a
+/// plus term and s + d falls below none that ends on a minus term. For the tests.
+pub fn within_by_sums(s: u64, n: u64, k: u64, d: u64, last: u64) -> bool {
+    if s > BILLION || ((n == 0 || k == 0) && s != BILLION) {
+        return false;
+    }
+    let low = Fraction::whole(s as i128 - d as i128);
+    let high = Fraction::whole(s as i128 + d as i128);
+    let mut sums = Sums::new(&exponent(n, k));
+    loop {
+        let sum = sums.value().mul_whole(BILLION);
+        if sums.ends_on_plus() && low.compare(&sum) == Ordering::Greater {
+            return false;
+        }
+        if !sums.ends_on_plus() && high.compare(&sum) == Ordering::Less {
+            return false;
+        }
+        if sums.term() >= last {
+            return true;
+        }
+        sums.advance();
+    }
+}
+
+#[cfg(test)]
+mod tests {
+    use super::*;
+
+    const RATES: [u64; 4] = [1000, 30, 66, 2];
+
+    /// e^(-1) to 40 digits, known from elsewhere.
+    #[test]
+    fn bracket_of_one() {
+        let known = Natural::from_decimal("3678794411714423215955237701614608674458").unwrap();
+        let scale = Natural::from_decimal(&format!("1{}", "0".repeat(40))).unwrap();
+        let low = Fraction::new(Integer::from(known.clone()), scale.clone());
+        let high = Fraction::new(Integer::from(known.add(&Natural::one())), scale);
+        let tight = bracket(&Fraction::whole(1), 60);
+        assert!(
+            low.at_most(&tight.below)
+                && tight.below.at_most(&tight.above)
+                && tight.above.at_most(&high)
+        );
+    }
+
+    #[test]
+    fn brackets_nest() {
+        for (p, q) in [(0, 1), (1, 7), (697, 100), (8, 1), (10606, 1327)] {
+            let w = Fraction::of(p, q);
+            for last in [0, 2, 4, 10, 20] {
+                let wide = bracket(&w, last);
+                let tight = bracket(&w, 60);
+                assert!(wide.below.at_most(&tight.below));
+                assert!(tight.below.at_most(&tight.above));
+                assert!(tight.above.at_most(&wide.above));
+            }
+        }
+    }
+
+    #[test]
+    fn e_to_the_minus_thirty_is_small() {
+        let above = bracket(&Fraction::whole(30), 150).above;
+        assert!(above.mul_whole(2 * BILLION).below(&Fraction::whole(1)));
+    }
+
+    #[test]
+    fn known_factors() {
+        for (t, a) in [
+            (-51, 0),
+            (-400, 0),
+            (-50, 162),
+            (34, 3561),
+            (93, 10013),
+            (500, 83639),
+        ] {
+            assert_eq!(temperature_factor(t), a, "T {t}");
+        }
+        for (c, r) in [(0, 147_896), (234, 221_524), (1000, 244_467)] {
+            assert_eq!(clay_factor(c), r, "C {c}");
+        }
+    }
+
+    /// The entries closest to a half: T 133 is 16090.50009735, C 658 is 243625.49987, C 17 is 155586.50027.
+    #[test]
+    fn tightest_entries() {
+        assert_eq!(temperature_factor(133), 16_091);
+        assert_eq!(clay_factor(658), 243_625);
+        assert_eq!(clay_factor(17), 155_587);
+        let between = |low: Fraction, value: &Fraction, high: Fraction| {
+            low.below(value) && value.below(&high)
+        };
+        let x = bracket(&Fraction::of(10_606, 10 * 133 + 1_827), 60);
+        for end in [&x.below, &x.above] {
+            let top = end.numerator.mul(&Integer::from(479_100));
+            let value = Fraction::new(top, end.numerator.magnitude().add(&end.denominator));
+            assert!(between(
+                Fraction::of(1_609_050_009_734, 100_000_000),
+                &value,
+                Fraction::of(1_609_050_009_736, 100_000_000)
+            ));
+        }
+        for (c, low, high) in [
+            (658, 24_362_549_986i128, 24_362_549_988i128),
+            (17, 15_558_650_026, 15_558_650_028),
+        ] {
+            let x = bracket(&Fraction::of(786 * c, 100_000), 60);
+            for end in [&x.below, &x.above] {
+                let bottom = end
+                    .denominator
+                    .mul_u64(40_895)
+                    .add(&end.numerator.magnitude().mul_u64(26_720));
+                let value = Fraction::new(
+                    Integer::from(end.denominator.mul_u64(10_000_000_000)),
+                    bottom,
+                );
+                assert!(
+                    between(
+                        Fraction::of(low, 100_000),
+                        &value,
+                        Fraction::of(high, 100_000)
+                    ),
+                    "C {c}"
+                );
+            }
+        }
+    }
+
+    /// Far from a half a float must agree: a check on the formulas, not on the rounding.
+    #[test]
+    fn tables_against_floats() {
+        let mut near = 0;
+        for t in -50..=500i64 {
+            let exact = 479_100.0 / (1.0 + (106.06 / (t as f64 / 10.0 + 18.27)).exp());
+            let distance = (exact - temperature_factor(t) as f64).abs();
+            assert!(distance < 0.500_001, "T {t}");
+            near += usize::from(distance > 0.499_9);
+        }
+        for c in 0..=1000i64 {
+            let z = 1.67 * (1.85 + 1.60 * (-0.00786 * c as f64).exp());
+            let distance = (1_000_000.0 / (1.0 + z) - clay_factor(c) as f64).abs();
+            assert!(distance < 0.500_001, "C {c}");
+            near += usize::from(distance > 0.499_9);
+        }
+        assert!(near < 10);
+    }
+
+    #[test]
+    fn survival_at_zero() {
+        for k in RATES {
+            assert_eq!(survival_nearest(0, k), BILLION);
+            assert_eq!(allowed_range(0, k), (BILLION, BILLION));
+            assert!(
+                allowed(BILLION, 0, k)
+                    && !allowed(BILLION - 1, 0, k)
+                    && !allowed(BILLION + 1, 0, k)
+            );
+        }
+    }
+
+    #[test]
+    fn survival_against_the_sums() {
+        let mut seed = 12_345u64;
+        for round in 0..400 {
+            seed = seed
+                .wrapping_mul(6_364_136_223_846_793_005)
+                .wrapping_add(1_442_695_040_888_963_407);
+            let n = match round {
+                0 => 1,
+                1 => 83_639 * 10_000 * 10,
+                2 => 162 * 2_000 * 6,
+                3 => 9_600_000_000,
+                4 => 20_000_000_000,
+                _ => (seed >> 20) % 8_363_900_001,
+            };
+            for k in RATES {
+                if n == 0 {
+                    continue;
+                }
+                assert_eq!(survival_floor(n, k), open_floor_by_sums(n, k, BILLION));
+                assert_eq!(
+                    survival_nearest(n, k),
+                    open_floor_by_sums(n, k, 2 * BILLION).div_ceil(2)
+                );
+                let (lowest, highest) = allowed_range(n, k);
+                let nearest = survival_nearest(n, k);
+                assert!(allowed(nearest, n, k) && within(nearest, n, k, 1));
+                if round < 60 {
+                    let last = 100;
+                    for d in 1..=3 {
+                        for s in lowest.saturating_sub(2)..=highest + 2 {
+                            assert_eq!(
+                                within(s, n, k, d),
+                                within_by_sums(s, n, k, d, last),
+                                "s {s} n {n} k {k} d {d}"
+                            );
+                        }
+                    }
+                }
+            }
+        }
+    }
+
+    #[test]
+    fn survival_far_out() {
+        assert_eq!(survival_floor(u64::MAX, u64::MAX), 0);
+        assert_eq!(allowed_range(u64::MAX, 1000), (0, 3));
+        assert_eq!(survival_nearest(u64::MAX, 1000), 0);
+        // e^(-10): 45399.9297 billionths.
+        assert_eq!(survival_floor(12_000_000_000, 1000), 45_399);
+        assert_eq!(survival_nearest(12_000_000_000, 1000), 45_400);
+        // Tiny w: the range is cut at 1,000,000,000.
+        assert_eq!(allowed_range(1, 1), (BILLION - 3, BILLION));
+    }
+}

@@ -1,0 +1,954 @@
+//! Soil, state, months, lists and spin-up, with every refusal in the paper's order.
+//! Lent numbers can be of any size; sums are taken in 128 bits, so nothing wraps.
+
+use crate::exponential::{clay_factor, survival_nearest, temperature_factor, BILLION};
+
+/// Ceiling of the active pools together, and of IOM, in grams (7, 17).
+pub const CARBON_CEILING: u128 = 1_000_000_000;
+/// Most months a state may have done (10, 12).
+pub const MONTH_LIMIT: u64 = 120_000;
+/// Most carbon that a month can add, plant and manure together (10).
+pub const MONTH_ADDITIONS: u128 = 200_000_000;
+/// Most rows of a list, and the highest count in a book (3).
+pub const ROW_LIMIT: usize = 1_200;
+/// Numbers in a weather or land row.
+pub const ROW_NUMBERS: usize = 3;
+/// Numbers in an output row: five pools, the month's CO2, D.
+pub const OUTPUT_NUMBERS: usize = 7;
+/// Most years of a spin-up (9).
+pub const YEAR_LIMIT: i128 = 10_000;
+/// A spin-up year settles at this change of the total or less, in grams.
+pub const SETTLED: u128 = 1_000;
+
+/// The active pools by index.
+pub const DPM: usize = 0;
+pub const RPM: usize = 1;
+pub const BIO: usize = 2;
+pub const HUM: usize = 3;
+
+/// Rates K in hundredths a year, by pool.
+pub const RATES: [u64; 4] = [1000, 30, 66, 2];
+
+#[derive(Clone, Debug, PartialEq, Eq)]
+pub struct Soil {
+    /// Tenths of a percent.
+    pub clay: i128,
+    /// Whole cm.
+    pub depth: i128,
+    /// 1, 2 or 3.
+    pub kind: i128,
+    /// DPM, RPM, BIO, HUM in grams.
+    pub pools: [u64; 4],
+    /// IOM in grams.
+    pub inert: u64,
+}
+
+#[derive(Clone, Debug, PartialEq, Eq)]
+pub struct State {
+    pub soil: Soil,
+    /// D in parts.
+    pub deficit: i128,
+    /// Months done.
+    pub months: u64,
+    /// CO2 to date, in grams.
+    pub co2: u64,
+}
+
+/// What a month is given. Any numbers at all; the checks are the month's.
+#[derive(Clone, Copy, Debug, PartialEq, Eq)]
+pub struct Entries {
+    pub temperature: i64,
+    pub rain: i64,
+    pub evaporation: i64,
+    pub cover: i64,
+    pub plant: i64,
+    pub manure: i64,
+}
+
+/// Each refusal's cause; `as u8` is its number in the paper.
+#[derive(Clone, Copy, Debug, PartialEq, Eq, PartialOrd, Ord)]
+pub enum Cause {
+    BookTooLong = 1,
+    Form = 2,
+    Count = 3,
+    Clay = 4,
+    Depth = 5,
+    Kind = 6,
+    Pools = 7,
+    OutputTooShort = 8,
+    Years = 9,
+    State = 10,
+    Turn = 11,
+    MonthsDone = 12,
+    Temperature = 13,
+    Water = 14,
+    Cover = 15,
+    Addition = 16,
+    Ceiling = 17,
+}
+
+impl Cause {
+    pub fn number(self) -> u8 {
+        self as u8
+    }
+}
+
+/// A cause with its place: line in a book, month in a list or spin-up, else 0.
+#[derive(Clone, Copy, Debug, PartialEq, Eq)]
+pub struct Refusal {
+    pub cause: Cause,
+    pub place: u64,
+}
+
+/// Seven numbers: DPM, RPM, BIO, HUM, IOM, the month's CO2, D.
+pub type Row = [u64; OUTPUT_NUMBERS];
+
+/// Where S comes from: it alone has latitude. A function of N and K.
+pub trait Survival {
+    fn survival(&mut self, n: u64, k: u64) -> u64;
+}
+
+impl<F: FnMut(u64, u64) -> u64> Survival for F {
+    fn survival(&mut self, n: u64, k: u64) -> u64 {
+        self(n, k)
+    }
+}
+
+/// The survival number nearest to the exact one.
+pub struct Nearest;
+
+impl Survival for Nearest {
+    fn survival(&mut self, n: u64, k: u64) -> u64 {
+        survival_nearest(n, k)
+    }
+}
+
+impl Soil {
+    pub fn active(&self) -> u128 {
+        self.pools.iter().map(|grams| *grams as u128).sum()
+    }
+
+    /// Five pools.
+    pub fn total(&self) -> u128 {
+        self.active() + self.inert as u128
+    }
+
+    /// Refusals 4 to 7.
+    pub fn check(&self) -> Result<(), Cause> {
+        if !(0..=1000).contains(&self.clay) {
+            return Err(Cause::Clay);
+        }
+        if !(1..=100).contains(&self.depth) {
+            return Err(Cause::Depth);
+        }
+        if !(1..=3).contains(&self.kind) {
+            return Err(Cause::Kind);
+        }
+        if self.active() > CARBON_CEILING || self.inert as u128 > CARBON_CEILING {
+            return Err(Cause::Pools);
+        }
+        Ok(())
+    }
+
+    /// M of step 3, for a soil that 4 and 5 don't refuse.
+    pub fn deficit_limit(&self) -> i128 {
+        9 * self.depth * (200_000 + 1_300 * self.clay - self.clay * self.clay)
+    }
+}
+
+impl State {
+    /// A new state: deficit, months and CO2 are 0.
+    pub fn new(soil: Soil) -> State {
+        State {
+            soil,
+            deficit: 0,
+            months: 0,
+            co2: 0,
+        }
+    }
+
+    /// Refusal 10, for a soil that 4 to 7 don't refuse.
+    pub fn check_numbers(&self) -> Result<(), Cause> {
+        let carbon = self.co2 as u128 + self.soil.active();
+        if self.deficit < 0
+            || self.deficit > self.soil.deficit_limit()
+            || self.months > MONTH_LIMIT
+            || carbon > CARBON_CEILING + MONTH_ADDITIONS * self.months as u128
+        {
+            return Err(Cause::State);
+        }
+        Ok(())
+    }
+}
+
+/// Refusals 13 and 14.
+pub fn check_weather(temperature: i64, rain: i64, evaporation: i64) -> Result<(), Cause> {
+    if !(-400..=500).contains(&temperature) {
+        return Err(Cause::Temperature);
+    }
+    if !(0..=20_000).contains(&rain) || !(0..=20_000).contains(&evaporation) {
+        return Err(Cause::Water);
+    }
+    Ok(())
+}
+
+/// Refusals 15 to 17. `active`: the active pools before the month.
+pub fn check_land(cover: i64, plant: i64, manure: i64, active: u128) -> Result<(), Cause> {
+    if cover != 0 && cover != 1 {
+        return Err(Cause::Cover);
+    }
+    if !(0..=100_000_000).contains(&plant) || !(0..=100_000_000).contains(&manure) {
+        return Err(Cause::Addition);
+    }
+    if active + plant as u128 + manure as u128 > CARBON_CEILING {
+        return Err(Cause::Ceiling);
+    }
+    Ok(())
+}
+
+/// Refusals 12 to 17, as a month of a list or spin-up meets them.
+fn check_month(state: &State, entries: &Entries) -> Result<(), Cause> {
+    if state.months >= MONTH_LIMIT {
+        return Err(Cause::MonthsDone);
+    }
+    check_weather(entries.temperature, entries.rain, entries.evaporation)?;
+    check_land(
+        entries.cover,
+        entries.plant,
+        entries.manure,
+        state.soil.active(),
+    )
+}
+
+/// Steps 1 to 4 without S: the month's rate factors and its new deficit.
+#[derive(Clone, Copy, Debug, PartialEq, Eq)]
+pub struct Factors {
+    /// A of step 1.
+    pub temperature: u64,
+    /// R of step 2.
+    pub clay: u64,
+    /// B of step 3.
+    pub moisture: u64,
+    /// N of step 4.
+    pub n: u64,
+    /// The new D.
+    pub deficit: i128,
+}
+
+/// Step 3: the new deficit.
+pub fn new_deficit(soil: &Soil, deficit: i128, rain: i64, evaporation: i64, cover: i64) -> i128 {
+    let limit = soil.deficit_limit();
+    let drying = 155_250 * evaporation as i128 - 207_000 * rain as i128;
+    // 5/9 of M is whole: M has the factor 9.
+    let cap = if cover == 1 {
+        limit
+    } else {
+        deficit.max(limit / 9 * 5)
+    };
+    (deficit + drying).max(0).min(cap)
+}
+
+/// Step 3: B for the new deficit.
+pub fn moisture_factor(soil: &Soil, deficit: i128) -> u64 {
+    let limit = soil.deficit_limit();
+    if 1000 * deficit < 444 * limit {
+        return 10_000;
+    }
+    // 2,000 + 8,000,000 × (M - D) / (556 × M), halves up.
+    let (top, bottom) = (8_000_000 * (limit - deficit), 556 * limit);
+    (2_000 + (2 * top + bottom).div_euclid(2 * bottom)) as u64
+}
+
+/// Steps 1 to 4 for entries that 13 to 15 don't refuse.
+pub fn factors(soil: &Soil, deficit: i128, entries: &Entries) -> Factors {
+    let temperature = temperature_factor(entries.temperature);
+    let clay = clay_factor(soil.clay as i64);
+    let deficit = new_deficit(
+        soil,
+        deficit,
+        entries.rain,
+        entries.evaporation,
+        entries.cover,
+    );
+    let moisture = moisture_factor(soil, deficit);
+    let n = temperature * moisture * if entries.cover == 1 { 6 } else { 10 };
+    Factors {
+        temperature,
+        clay,
+        moisture,
+        n,
+        deficit,
+    }
+}
+
+/// Step 5: what a pool keeps.
+pub fn kept(grams: u64, survival: u64) -> u64 {
+    (grams as u128 * survival as u128 / BILLION as u128) as u64
+}
+
+/// Step 6: the share of DPM in plant carbon, as numerator and denominator.
+pub fn plant_share(kind: i128) -> (u64, u64) {
+    match kind {
+        1 => (36, 61),
+        2 => (67, 167),
+        3 => (1, 5),
+        _ => panic!("kind is 1, 2 or 3"),
+    }
+}
+
+/// Step 6: DPM and RPM of plant carbon.
+pub fn split_plant(kind: i128, plant: u64) -> (u64, u64) {
+    let (top, bottom) = plant_share(kind);
+    let dpm = plant * top / bottom;
+    (dpm, plant - dpm)
+}
+
+/// Step 6: DPM, RPM and HUM of manure.
+pub fn split_manure(manure: u64) -> (u64, u64, u64) {
+    let (dpm, hum) = (manure * 49 / 100, manure * 2 / 100);
+    (dpm, manure - dpm - hum, hum)
+}
+
+/// An accepted month, all checks done: steps 1 to 6.
+pub fn run_month(state: &State, entries: &Entries, survival: &mut dyn Survival) -> (State, Row) {
+    let soil = &state.soil;
+    let factors = factors(soil, state.deficit, entries);
+
+    // Step 5.
+    let mut pools = [0u64; 4];
+    let mut lost = 0u64;
+    for pool in 0..4 {
+        let s = survival.survival(factors.n, RATES[pool]);
+        assert!(s <= BILLION, "S is from 0 to 1,000,000,000");
+        pools[pool] = kept(soil.pools[pool], s);
+        lost += soil.pools[pool] - pools[pool];
+    }
+    let formed = lost * factors.clay / 1_000_000;
+    let co2 = lost - formed;
+    let to_bio = formed * 46 / 100;
+    pools[BIO] += to_bio;
+    pools[HUM] += formed - to_bio;
+
+    // Step 6.
+    let (dpm, rpm) = split_plant(soil.kind, entries.plant as u64);
+    pools[DPM] += dpm;
+    pools[RPM] += rpm;
+    let (dpm, rpm, hum) = split_manure(entries.manure as u64);
+    pools[DPM] += dpm;
+    pools[RPM] += rpm;
+    pools[HUM] += hum;
+
+    let next = State {
+        soil: Soil {
+            pools,
+            ..soil.clone()
+        },
+        deficit: factors.deficit,
+        months: state.months + 1,
+        co2: state.co2 + co2,
+    };
+    let row = [
+        pools[0],
+        pools[1],
+        pools[2],
+        pools[3],
+        soil.inert,
+        co2,
+        factors.deficit as u64,
+    ];
+    (next, row)
+}
+
+/// Refusals of a single month call, in order: 4 to 7, 10, 11, 12 to 17.
+pub fn check_call(state: &State, number: i128, entries: &Entries) -> Result<(), Cause> {
+    state.soil.check()?;
+    state.check_numbers()?;
+    if number != state.months as i128 + 1 {
+        return Err(Cause::Turn);
+    }
+    check_month(state, entries)
+}
+
+/// A single month call: the state returned and the month's row or the refusal (place 0).
+pub fn month(
+    state: &State,
+    number: i128,
+    entries: &Entries,
+    survival: &mut dyn Survival,
+) -> (State, Result<Row, Refusal>) {
+    match check_call(state, number, entries) {
+        Err(cause) => (state.clone(), Err(Refusal { cause, place: 0 })),
+        Ok(()) => {
+            let (next, row) = run_month(state, entries, survival);
+            (next, Ok(row))
+        }
+    }
+}
+
+/// Called with the state before each month that runs, and its entries.
+pub type Watch<'a> = &'a mut dyn FnMut(&State, &Entries);
+
+/// The entries of month j (from 1) of a list: land row j, weather row ((j - 1) mod rows) + 1.
+pub fn list_entries(weather: &[i64], land: &[i64], j: usize) -> Entries {
+    let rows = weather.len() / ROW_NUMBERS;
+    let w = (j - 1) % rows * ROW_NUMBERS;
+    let l = (j - 1) * ROW_NUMBERS;
+    Entries {
+        temperature: weather[w],
+        rain: weather[w + 1],
+        evaporation: weather[w + 2],
+        cover: land[l],
+        plant: land[l + 1],
+        manure: land[l + 2],
+    }
+}
+
+/// Refusal 3 for one list.
+fn list_count(numbers: &[i64]) -> Result<(), Cause> {
+    if numbers.len() % ROW_NUMBERS != 0 || !(1..=ROW_LIMIT).contains(&(numbers.len() / ROW_NUMBERS))
+    {
+        return Err(Cause::Count);
+    }
+    Ok(())
+}
+
+/// Step 7: a list of months. Rows go to the front of `output`; the rest stays as it was.
+/// Order: 3, 4 to 7, 8, 10 with place 0, then month by month 12 to 17.
+/// Refused at month j it returns the state after j - 1 months, with those rows written.
+pub fn list(
+    state: &State,
+    weather: &[i64],
+    land: &[i64],
+    output: &mut [u64],
+    survival: &mut dyn Survival,
+) -> (State, Result<(), Refusal>) {
+    list_watched(state, weather, land, output, survival, &mut |_, _| ())
+}
+
+pub fn list_watched(
+    state: &State,
+    weather: &[i64],
+    land: &[i64],
+    output: &mut [u64],
+    survival: &mut dyn Survival,
+    watch: Watch,
+) -> (State, Result<(), Refusal>) {
+    let rows = land.len() / ROW_NUMBERS;
+    let outside = || -> Result<(), Cause> {
+        list_count(weather)?;
+        list_count(land)?;
+        state.soil.check()?;
+        if output.len() < rows * OUTPUT_NUMBERS {
+            return Err(Cause::OutputTooShort);
+        }
+        state.check_numbers()
+    };
+    if let Err(cause) = outside() {
+        return (state.clone(), Err(Refusal { cause, place: 0 }));
+    }
+    let mut current = state.clone();
+    for j in 1..=rows {
+        let entries = list_entries(weather, land, j);
+        if let Err(cause) = check_month(&current, &entries) {
+            return (
+                current,
+                Err(Refusal {
+                    cause,
+                    place: j as u64,
+                }),
+            );
+        }
+        watch(&current, &entries);
+        let (next, row) = run_month(&current, &entries, survival);
+        output[(j - 1) * OUTPUT_NUMBERS..j * OUTPUT_NUMBERS].copy_from_slice(&row);
+        current = next;
+    }
+    (current, Ok(()))
+}
+
+/// How a spin-up ended, with the years run.
+#[derive(Clone, Copy, Debug, PartialEq, Eq)]
+pub enum Spun {
+    Settled(u64),
+    Unsettled(u64),
+}
+
+/// Spin-up. Order: 3, 4 to 7, 9, 10 with place 0, then month by month 12 to 17,
+/// the place counted over all years. A refusal returns the starting state.
+pub fn spin_up(
+    state: &State,
+    weather: &[i64],
+    land: &[i64],
+    years: i128,
+    survival: &mut dyn Survival,
+) -> (State, Result<Spun, Refusal>) {
+    spin_up_watched(state, weather, land, years, survival, &mut |_, _| ())
+}
+
+pub fn spin_up_watched(
+    state: &State,
+    weather: &[i64],
+    land: &[i64],
+    years: i128,
+    survival: &mut dyn Survival,
+    watch: Watch,
+) -> (State, Result<Spun, Refusal>) {
+    let outside = || -> Result<(), Cause> {
+        if weather.len() != 12 * ROW_NUMBERS || land.len() != 12 * ROW_NUMBERS {
+            return Err(Cause::Count);
+        }
+        state.soil.check()?;
+        if !(1..=YEAR_LIMIT).contains(&years) {
+            return Err(Cause::Years);
+        }
+        state.check_numbers()
+    };
+    if let Err(cause) = outside() {
+        return (state.clone(), Err(Refusal { cause, place: 0 }));
+    }
+    let mut current = state.clone();
+    for year in 1..=years as u64 {
+        let start = current.soil.total();
+        for j in 1..=12 {
+            let entries = list_entries(weather, land, j);
+            if let Err(cause) = check_month(&current, &entries) {
+                return (
+                    state.clone(),
+                    Err(Refusal {
+                        cause,
+                        place: (year - 1) * 12 + j as u64,
+                    }),
+                );
+            }
+            watch(&current, &entries);
+            current = run_month(&current, &entries, survival).0;
+        }
+        if current.soil.total().abs_diff(start) <= SETTLED {
+            return (current, Ok(Spun::Settled(year)));
+        }
+    }
+    (current, Ok(Spun::Unsettled(years as u64)))
+}
+
+#[cfg(test)]
+mod tests {
+    use super::*;
+
+    fn soil(clay: i128, depth: i128, kind: i128, pools: [u64; 4], inert: u64) -> Soil {
+        Soil {
+            clay,
+            depth,
+            kind,
+            pools,
+            inert,
+        }
+    }
+
+    fn hoosfield() -> Soil {
+        soil(
+            234,
+            23,
+            1,
+            [153_300, 4_485_200, 667_100, 25_857_600],
+            2_700_000,
+        )
+    }
+
+    const JANUARY: Entries = Entries {
+        temperature: 34,
+        rain: 740,
+        evaporation: 80,
+        cover: 0,
+        plant: 0,
+        manure: 0,
+    };
+
+    fn cause(state: &State, number: i128, entries: &Entries) -> Option<u8> {
+        let (next, answer) = month(state, number, entries, &mut Nearest);
+        match answer {
+            Ok(_) => None,
+            Err(refusal) => {
+                assert_eq!((&next, refusal.place), (state, 0));
+                Some(refusal.cause.number())
+            }
+        }
+    }
+
+    #[test]
+    fn january_1852() {
+        let (state, row) = month(&State::new(hoosfield()), 1, &JANUARY, &mut Nearest);
+        assert_eq!(
+            row,
+            Ok([113_937, 4_445_447, 665_104, 25_855_106, 2_700_000, 83_606, 0])
+        );
+        assert_eq!((state.months, state.co2, state.deficit), (1, 83_606, 0));
+        assert_eq!(state.soil.total(), 33_779_594);
+    }
+
+    #[test]
+    fn moisture() {
+        let rothamsted = hoosfield();
+        assert_eq!(rothamsted.deficit_limit(), 93_034_908);
+        assert_eq!(moisture_factor(&rothamsted, 2_070_000 * 55 / 2), 7_585);
+        assert_eq!(
+            moisture_factor(&rothamsted, rothamsted.deficit_limit()),
+            2_000
+        );
+        assert_eq!(moisture_factor(&rothamsted, 0), 10_000);
+        // The edge itself: 0.444 of M is not below 0.444 of M, and gives 10,000 by the formula too.
+        let round = soil(0, 100, 1, [0; 4], 0);
+        assert_eq!(round.deficit_limit(), 180_000_000);
+        assert_eq!(moisture_factor(&round, 79_920_000), 10_000);
+        assert_eq!(moisture_factor(&round, 79_919_999), 10_000);
+        assert_eq!(moisture_factor(&round, 80_000_000), 9_994);
+    }
+
+    #[test]
+    fn exact_half_goes_up() {
+        let half = soil(100, 23, 1, [0; 4], 0);
+        let (m, d) = (half.deficit_limit(), 59_046_750);
+        assert_eq!(m, 66_240_000);
+        // 8,000,000 × (M - D) / (556 × M) is 1562.5 exactly.
+        assert_eq!(2 * 8_000_000 * (m - d), 3_125 * 556 * m);
+        assert_eq!(moisture_factor(&half, d), 3_563);
+        assert_eq!(moisture_factor(&half, d + 1), 3_562);
+        // One month under a crop reaches it.
+        assert_eq!(new_deficit(&half, 0, 2, 383, 1), d);
+    }
+
+    #[test]
+    fn bare_soil_keeps_a_drier_deficit() {
+        let s = hoosfield();
+        let (m, bare) = (s.deficit_limit(), s.deficit_limit() / 9 * 5);
+        assert_eq!(bare * 9, m * 5);
+        assert_eq!(new_deficit(&s, 0, 0, 20_000, 0), bare);
+        assert_eq!(new_deficit(&s, 0, 0, 20_000, 1), m);
+        assert_eq!(new_deficit(&s, m, 0, 500, 0), m);
+        assert_eq!(new_deficit(&s, m - 5, 0, 500, 0), m - 5);
+        assert_eq!(new_deficit(&s, m, 100, 0, 0), m - 20_700_000);
+        assert_eq!(new_deficit(&s, m, 20_000, 0, 0), 0);
+        assert_eq!(new_deficit(&s, bare, 0, 0, 0), bare);
+    }
+
+    #[test]
+    fn splits() {
+        assert_eq!(split_plant(1, 61), (36, 25));
+        assert_eq!(split_plant(2, 167), (67, 100));
+        assert_eq!(split_plant(3, 9), (1, 8));
+        assert_eq!(split_manure(99), (48, 50, 1));
+    }
+
+    #[test]
+    fn ceiling_of_a_month() {
+        let full = State::new(soil(234, 23, 1, [250_000_000; 4], 0));
+        assert_eq!(cause(&full, 1, &JANUARY), None);
+        assert_eq!(
+            cause(
+                &full,
+                1,
+                &Entries {
+                    plant: 1,
+                    ..JANUARY
+                }
+            ),
+            Some(17)
+        );
+        assert_eq!(
+            cause(
+                &full,
+                1,
+                &Entries {
+                    manure: 1,
+                    ..JANUARY
+                }
+            ),
+            Some(17)
+        );
+    }
+
+    #[test]
+    fn order_of_a_call() {
+        let good = State::new(hoosfield());
+        let max = u64::MAX;
+        let mut bad = good.clone();
+        bad.soil = soil(1001, 0, 4, [max; 4], max);
+        bad.deficit = -1;
+        bad.months = max;
+        bad.co2 = max;
+        let wrong = Entries {
+            temperature: i64::MIN,
+            rain: i64::MIN,
+            evaporation: i64::MAX,
+            cover: i64::MIN,
+            plant: i64::MAX,
+            manure: i64::MAX,
+        };
+        assert_eq!(cause(&bad, 0, &wrong), Some(4));
+        bad.soil.clay = 1000;
+        assert_eq!(cause(&bad, 0, &wrong), Some(5));
+        bad.soil.depth = 100;
+        assert_eq!(cause(&bad, 0, &wrong), Some(6));
+        bad.soil.kind = 3;
+        assert_eq!(cause(&bad, 0, &wrong), Some(7));
+        bad.soil.pools = [1, 0, 0, 0];
+        assert_eq!(cause(&bad, 0, &wrong), Some(7));
+        bad.soil.inert = 1_000_000_000;
+        assert_eq!(cause(&bad, 0, &wrong), Some(10));
+        bad.deficit = bad.soil.deficit_limit();
+        assert_eq!(cause(&bad, 0, &wrong), Some(10));
+        bad.months = 120_000;
+        assert_eq!(cause(&bad, 0, &wrong), Some(10));
+        bad.co2 = 24_000_999_999_999;
+        assert_eq!(cause(&bad, 0, &wrong), Some(11));
+        bad.co2 += 1;
+        assert_eq!(cause(&bad, 0, &wrong), Some(10));
+        bad.co2 -= 1;
+        assert_eq!(cause(&bad, 120_000, &wrong), Some(11));
+        assert_eq!(cause(&bad, 120_001, &wrong), Some(12));
+        bad.months = 119_999;
+        assert_eq!(cause(&bad, 120_000, &wrong), Some(10));
+        bad.co2 = 0;
+        assert_eq!(cause(&bad, 120_000, &wrong), Some(13));
+        let wrong = Entries {
+            temperature: 500,
+            ..wrong
+        };
+        assert_eq!(cause(&bad, 120_000, &wrong), Some(14));
+        let wrong = Entries { rain: 0, ..wrong };
+        assert_eq!(cause(&bad, 120_000, &wrong), Some(14));
+        let wrong = Entries {
+            evaporation: 20_000,
+            ..wrong
+        };
+        assert_eq!(cause(&bad, 120_000, &wrong), Some(15));
+        let wrong = Entries { cover: 1, ..wrong };
+        assert_eq!(cause(&bad, 120_000, &wrong), Some(16));
+        let wrong = Entries {
+            plant: 100_000_000,
+            ..wrong
+        };
+        assert_eq!(cause(&bad, 120_000, &wrong), Some(16));
+        let wrong = Entries {
+            manure: 100_000_000,
+            ..wrong
+        };
+        assert_eq!(cause(&bad, 120_000, &wrong), None);
+        bad.soil.pools = [800_000_001, 0, 0, 0];
+        assert_eq!(cause(&bad, 120_000, &wrong), Some(17));
+        bad.soil.pools = [800_000_000, 0, 0, 0];
+        assert_eq!(cause(&bad, 120_000, &wrong), None);
+    }
+
+    #[test]
+    fn lists() {
+        let state = State::new(soil(0, 1, 2, [10, 20, 30, 40], 5));
+        let weather = [-60, 0, 0, 501, 0, 0];
+        let land = [0, 1, 2, 1, 0, 0];
+        let run = |state: &State, weather: &[i64], land: &[i64], output: &mut [u64]| {
+            let (next, answer) = list(state, weather, land, output, &mut Nearest);
+            (
+                next,
+                answer
+                    .err()
+                    .map(|refusal| (refusal.cause.number(), refusal.place)),
+            )
+        };
+        // One month uses one weather row: the faulty second is not checked.
+        let mut output = [9; 16];
+        let (next, refused) = run(&state, &weather, &land[..3], &mut output);
+        assert_eq!(refused, None);
+        assert_eq!(output, [10, 23, 30, 40, 5, 0, 0, 9, 9, 9, 9, 9, 9, 9, 9, 9]);
+        assert_eq!(next.months, 1);
+        // Two months: refused at 2, the first row written.
+        let mut output = [9; 16];
+        let (next, refused) = run(&state, &weather, &land, &mut output);
+        assert_eq!((refused, next.months), (Some((13, 2)), 1));
+        assert_eq!(output, [10, 23, 30, 40, 5, 0, 0, 9, 9, 9, 9, 9, 9, 9, 9, 9]);
+        // 3 before all, 8 before 10.
+        let none: [i64; 0] = [];
+        for (w, l) in [
+            (&weather[..5], &land[..]),
+            (&weather[..], &land[..4]),
+            (&none[..], &land[..]),
+            (&weather[..], &none[..]),
+        ] {
+            assert_eq!(run(&state, w, l, &mut []).1, Some((3, 0)));
+        }
+        let long = vec![0; 3 * 1201];
+        assert_eq!(run(&state, &long, &land, &mut output).1, Some((3, 0)));
+        assert_eq!(run(&state, &weather, &long, &mut output).1, Some((3, 0)));
+        let dry = State {
+            deficit: -1,
+            ..state.clone()
+        };
+        assert_eq!(run(&dry, &weather, &land, &mut [9; 13]).1, Some((8, 0)));
+        assert_eq!(run(&dry, &weather, &land, &mut output).1, Some((10, 0)));
+        let deep = State {
+            soil: soil(0, 101, 2, [0; 4], 0),
+            deficit: -1,
+            ..state.clone()
+        };
+        assert_eq!(run(&deep, &weather, &land, &mut [9; 13]).1, Some((5, 0)));
+        // 12 is a fault of its month.
+        let late = State {
+            months: 119_999,
+            ..state.clone()
+        };
+        let mut output = [9; 16];
+        let (next, refused) = run(&late, &weather, &land, &mut output);
+        assert_eq!((refused, next.months), (Some((12, 2)), 120_000));
+        let done = State {
+            months: 120_000,
+            ..state.clone()
+        };
+        let (next, refused) = run(&done, &weather, &land, &mut output);
+        assert_eq!((refused, next), (Some((12, 1)), done));
+        // Weather wraps round.
+        let weather = [-60, 0, 100, -60, 0, 1];
+        let land = [1, 0, 0].repeat(3);
+        let mut output = [0; 21];
+        assert_eq!(run(&state, &weather, &land, &mut output).1, None);
+        assert_eq!(output[6], 1_800_000);
+        let deep = State {
+            soil: soil(0, 100, 2, [0; 4], 0),
+            ..state
+        };
+        assert_eq!(run(&deep, &weather, &land, &mut output).1, None);
+        assert_eq!(
+            [output[6], output[13], output[20]],
+            [15_525_000, 15_680_250, 31_205_250]
+        );
+    }
+
+    #[test]
+    fn spin_ups() {
+        let frost: Vec<i64> = [-60, 0, 0].repeat(12);
+        let bare: Vec<i64> = [0, 0, 0].repeat(12);
+        let state = State::new(soil(0, 1, 2, [10, 20, 30, 40], 5));
+        let (next, answer) = spin_up(&state, &frost, &bare, 10, &mut Nearest);
+        assert_eq!((answer, next.months), (Ok(Spun::Settled(1)), 12));
+        // 1,000 g a year settles, 1,001 doesn't.
+        let mut land = bare.clone();
+        land[1] = 1_000;
+        assert_eq!(
+            spin_up(&state, &frost, &land, 10, &mut Nearest).1,
+            Ok(Spun::Settled(1))
+        );
+        land[1] = 1_001;
+        let (next, answer) = spin_up(&state, &frost, &land, 10, &mut Nearest);
+        assert_eq!(
+            (answer, next.months, next.soil.total()),
+            (Ok(Spun::Unsettled(10)), 120, 105 + 10_010)
+        );
+        let refused = |state: &State, w: &[i64], l: &[i64], years: i128| {
+            let (next, answer) = spin_up(state, w, l, years, &mut Nearest);
+            assert_eq!(&next, state);
+            answer
+                .err()
+                .map(|refusal| (refusal.cause.number(), refusal.place))
+        };
+        assert_eq!(refused(&state, &frost[..33], &bare, 0), Some((3, 0)));
+        assert_eq!(refused(&state, &frost, &[0; 39], 0), Some((3, 0)));
+        let deep = State {
+            soil: soil(0, 101, 2, [0; 4], 0),
+            deficit: -1,
+            ..state.clone()
+        };
+        assert_eq!(refused(&deep, &frost, &bare, 0), Some((5, 0)));
+        let dry = State {
+            deficit: -1,
+            ..state.clone()
+        };
+        for years in [0, -1, 10_001, u64::MAX as i128] {
+            assert_eq!(refused(&dry, &frost, &bare, years), Some((9, 0)));
+        }
+        assert_eq!(refused(&dry, &frost, &bare, 10_000), Some((10, 0)));
+        // Year 4, month 5 is 41: 300 grams short of the ceiling after three years and four months.
+        let mut land = bare.clone();
+        land[12 + 1] = 100_000_000;
+        let full = State::new(soil(0, 1, 2, [600_000_001, 0, 0, 0], 0));
+        assert_eq!(refused(&full, &frost, &land, 10), Some((17, 41)));
+        let late = State {
+            months: 119_990,
+            ..state
+        };
+        assert_eq!(refused(&late, &frost, &land, 10), Some((12, 11)));
+        // Ten thousand years of months are 120,000: the last runs from a new state.
+        land[13] = 0;
+        land[1] = 1_001;
+        let (next, answer) = spin_up(
+            &State::new(soil(0, 1, 2, [0; 4], 0)),
+            &frost,
+            &land,
+            10_000,
+            &mut Nearest,
+        );
+        assert_eq!(
+            (answer, next.months),
+            (Ok(Spun::Unsettled(10_000)), 120_000)
+        );
+    }
+
+    /// Numbers of any size end in an answer, and a refused call returns what it was given.
+    #[test]
+    fn any_numbers_at_all() {
+        let mut seed = 99u64;
+        let mut draw = |limit: u64| {
+            seed = seed
+                .wrapping_mul(6_364_136_223_846_793_005)
+                .wrapping_add(1_442_695_040_888_963_407);
+            (seed >> 33) % limit
+        };
+        let mut seen = [0u32; 18];
+        for _ in 0..20_000 {
+            let mut any = |common: u64| match draw(12) {
+                0 => u64::MAX - draw(3),
+                1 => 1 << draw(64),
+                2 => common + draw(3),
+                _ => draw(common + 1),
+            };
+            let state = State {
+                soil: soil(
+                    any(1000) as i128,
+                    any(100) as i128,
+                    any(3) as i128,
+                    [any(990_000_000), any(9_000), any(9_000), any(9_000)],
+                    any(1_000_000_000),
+                ),
+                deficit: any(1_800_000) as i128,
+                months: any(120_000),
+                co2: any(1_000_000_000),
+            };
+            let entries = Entries {
+                temperature: any(500) as i64,
+                rain: any(20_000) as i64,
+                evaporation: any(20_000) as i64,
+                cover: any(1) as i64,
+                plant: any(100_000_000) as i64,
+                manure: any(100_000_000) as i64,
+            };
+            let number = state.months as i128 + i128::from(any(9) > 0);
+            seen[cause(&state, number, &entries).unwrap_or(0) as usize] += 1;
+            let weather = [entries.temperature, entries.rain, entries.evaporation].repeat(12);
+            let land = [entries.cover, entries.plant, entries.manure].repeat(12);
+            let mut output = [7; 90];
+            let (next, answer) = list(&state, &weather, &land, &mut output, &mut Nearest);
+            let ran = match answer {
+                Ok(()) => 12,
+                Err(refusal) => refusal.place.saturating_sub(1) as usize,
+            };
+            assert_eq!(next.months as u128, state.months as u128 + ran as u128);
+            assert!(output[ran * 7..].iter().all(|number| *number == 7));
+            let (next, answer) = spin_up(&state, &weather, &land, any(3) as i128, &mut Nearest);
+            match answer {
+                Err(_) => assert_eq!(next, state),
+                Ok(Spun::Settled(years)) | Ok(Spun::Unsettled(years)) => {
+                    assert_eq!(next.months, state.months + 12 * years)
+                }
+            }
+        }
+        for number in [0, 4, 5, 6, 7, 10, 11, 13, 14, 15, 16, 17] {
+            assert!(seen[number] > 0, "refusal {number}");
+        }
+    }
+}
