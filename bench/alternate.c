@@ -21,6 +21,7 @@ static double run(const char *program, const char *input) {
   pid_t child = vfork();
   if (child == 0) {
     int in = open(input, O_RDONLY);
+    if (in < 0) _exit(127);
     dup2(in, 0), dup2(ends[1], 1), close(ends[0]);
     execl(program, program, (char *)0);
     _exit(127);
@@ -29,7 +30,7 @@ static double run(const char *program, const char *input) {
   while (read(ends[0], buffer, sizeof buffer) > 0) {}
   close(ends[0]);
   waitpid(child, &status, 0);
-  if (!WIFEXITED(status) || WEXITSTATUS(status) == 127) fprintf(stderr, "%s did not run\n", program), exit(2);
+  if (!WIFEXITED(status) || WEXITSTATUS(status) != 0) fprintf(stderr, "%s did not run\n", program), exit(2);
   return (now() - start) * 1e3;
 }
 
@@ -41,6 +42,7 @@ static int by_size(const void *a, const void *b) {
 int main(int argc, char **argv) {
   if (argc != 5) return 2;
   int runs = atoi(argv[1]);
+  if (runs < 1) return 2;
   double *first = malloc(runs * sizeof *first), *second = malloc(runs * sizeof *second), *ratio = malloc(runs * sizeof *ratio);
   for (int i = 0; i < runs; i++) {
     first[i] = run(argv[3], argv[2]), second[i] = run(argv[4], argv[2]);

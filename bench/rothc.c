@@ -8,11 +8,11 @@
 
 #include "rothc.h"
 
-// Rothamsted's rain and evaporation (001) with round temperatures; crops from April to July.
-static const int64_t rothamsted[36] = {34, 740, 80, 39, 590, 100, 53, 620, 270, 78, 510, 490, 111, 520, 830, 143, 570, 990,
-                                       161, 340, 1030, 157, 550, 910, 136, 580, 690, 101, 560, 340, 63, 750, 160, 43, 710, 80};
-static const int64_t crops[36] = {0, 0, 0, 0, 0, 0, 0, 0, 0, 1, 160000, 0, 1, 320000, 0, 1, 320000, 0,
-                                  1, 800000, 0, 0, 0, 0, 0, 0, 0, 0, 0, 0, 0, 0, 0, 0, 0, 0};
+// Rothamsted's weather, and a year of the unmanured plot on Hoosfield (examples/README.md).
+static const int64_t rothamsted[36] = {34, 740, 80, 36, 590, 100, 51, 620, 270, 73, 510, 490, 110, 520, 830, 139, 570, 990,
+                                       160, 340, 1030, 160, 550, 910, 135, 580, 690, 102, 560, 340, 61, 750, 160, 46, 710, 80};
+static const int64_t crops[36] = {0, 0, 0, 0, 0, 0, 0, 0, 0, 1, 160000, 0, 1, 320000, 0, 1, 480000, 0,
+                                  1, 640000, 0, 0, 0, 0, 0, 0, 0, 0, 0, 0, 0, 0, 0, 0, 0, 0};
 // Every month at -5 degrees: the pools grow for longer than 10,000 years, so that the spin-up never settles.
 static int64_t cold[36], residue[36], land[3600];
 

@@ -1,8 +1,8 @@
 """Writes the three Hoosfield books of 001, part 2.1, as this folder has them: 1,200 months, 1852 to 1951.
 
-    python3 examples/hoosfield.py unmanured    > examples/hoosfield-unmanured.book
-    python3 examples/hoosfield.py manured      > examples/hoosfield-manured.book
-    python3 examples/hoosfield.py manured-1871 > examples/hoosfield-manured-to-1871.book
+    python3 examples/hoosfield.py unmanured       > examples/hoosfield-unmanured.book
+    python3 examples/hoosfield.py manured         > examples/hoosfield-manured.book
+    python3 examples/hoosfield.py manured-to-1871 > examples/hoosfield-manured-to-1871.book
 """
 import sys
 
@@ -19,14 +19,14 @@ SHARES = [1, 2, 3, 4]
 
 def plant_of(plot, year):
     """A year's plant carbon in grams."""
-    if plot == "unmanured" or (plot == "manured-1871" and year > 1876):
+    if plot == "unmanured" or (plot == "manured-to-1871" and year > 1876):
         return 1_600_000
     return 2_800_000
 
 
 def manure_of(plot, year, month):
     """The manure carbon of a month in grams: 3 t in February, later in November, and both in 1931."""
-    if plot == "manured-1871":
+    if plot == "manured-to-1871":
         spread = month == 2 and year <= 1871
     elif plot == "manured":
         spread = (month == 2 and year <= 1931 and year != 1912) or (month == 11 and year >= 1931)
@@ -49,6 +49,6 @@ def book(plot):
 
 
 if __name__ == "__main__":
-    if len(sys.argv) != 2 or sys.argv[1] not in ("unmanured", "manured", "manured-1871"):
+    if len(sys.argv) != 2 or sys.argv[1] not in ("unmanured", "manured", "manured-to-1871"):
         sys.exit(__doc__)
     sys.stdout.write(book(sys.argv[1]))

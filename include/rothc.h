@@ -1,6 +1,6 @@
 /* RothC soil carbon in whole grams: the proved functions, for C and for whatever calls C.
  *
- *     cc program.c librothc.a
+ *     cc -Iinclude program.c target/library/librothc.a
  *
  * builds a program: nothing else has to be linked but the C library that cc links anyway. examples/library builds the archive (and a
  * shared object) and runs a program in C, Rust and Python over it. The archive is for x86-64 Linux.
@@ -29,12 +29,13 @@ extern "C" {
 #endif
 
 /* What a call can return. The refusals have the numbers of the program's REFUSED line. Of several that apply the lowest is returned; in a
- * list or a spin-up the earliest month with a fault comes first. */
+ * list or a spin-up the earliest month with a fault comes first, in a book the earliest line. (rothc_book asks ROOM last; ROTHC_SHAPE comes
+ * before everything.) */
 enum {
   ROTHC_DONE = 0,
   ROTHC_BOOK_LENGTH = 1, /* the book is longer than 65,536 bytes */
   ROTHC_LINE = 2,        /* a line of the book is missing or isn't of its form */
-  ROTHC_ROWS = 3,        /* a count or a number of rows is outside 1 to 1,200, or a list isn't three numbers a row (spin-up: twelve rows) */
+  ROTHC_ROWS = 3,        /* SOIL's count isn't 1, another count or a number of rows is outside 1 to 1,200, or a list isn't three numbers a row (spin-up: twelve rows) */
   ROTHC_CLAY = 4,        /* clay is outside 0 to 1000 */
   ROTHC_DEPTH = 5,       /* depth is outside 1 to 100 */
   ROTHC_KIND = 6,        /* the plant kind is not 1, 2 or 3 */
@@ -92,7 +93,7 @@ enum {
   ROTHC_ROW_DEFICIT = 6
 };
 
-/* The most bytes that are written for a book. */
+/* Always enough bytes for what is written for a book. */
 enum { ROTHC_TEXT = 204800 };
 
 /* A spin-up's result, 2 x uint64_t. */

@@ -878,6 +878,21 @@ impl<'a> Differ<'a> {
         });
     }
 
+    /// An example book with the output that stands beside it: the reference, with the program's S, has to write the same.
+    pub fn example(&mut self, name: &str, bytes: &[u8], output: &[u8]) {
+        let mut faults = Vec::new();
+        let mut asked = Asked {
+            program: &mut *self.program,
+            known: &mut self.known,
+            faults: &mut faults,
+        };
+        let text = book::run(bytes, &mut asked);
+        let same = text == output && faults.is_empty();
+        self.outcome(same, || format!("example {name}\nS: {faults:?}\n{}", difference(&text, output)));
+        self.book(bytes, None);
+        self.say(format!("example {name}"));
+    }
+
     /// A book that nothing refuses, unless its pools reach the ceiling.
     fn valid_book(&mut self) -> Vec<u8> {
         let soil = self.soil();

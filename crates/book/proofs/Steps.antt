@@ -46,14 +46,6 @@ leaves e = (ap (λ (l : BookLeft). l .answer) e, ap (λ (l : BookLeft). l .rows)
 
 -- ---- numbers that fit
 
--- The five pools of a sound state.
-pub record Most (s : State) : Type 0 where
-  pub active : total (s .soil .pools) ≤ 1000000000
-  pub inert : s .soil .iom .0 ≤ 1000000000
-
-pub most : (s : State) → stateCheck s ≡ Pass → Most s
-most s h = let sound = sound-state s h in record { active = sound .soil .pools; inert = sound .soil .iom }
-
 -- A weather row lies within the weather.
 pub row-inside : (n j : ℕ) → 3 ≤ n → 3 * (j % (n / 3)) + 3 ≤ n
 row-inside n j h = omega (arith, mod-lt j {m = n / 3} (omega arith))

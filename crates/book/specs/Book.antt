@@ -14,6 +14,7 @@ use Rattle.state.specs.declared.Check.{Check}
 use Rattle.state.specs.declared.Check.the-variants.{Pass, Refuse}
 use Rattle.state.specs.declared.Refusal.the-variants.{Temperature, Water}
 use Rattle.state.specs.NewState.{newState}
+use Rattle.state.specs.FivePools.{fivePools}
 use Rattle.state.specs.Refusal.{refusalNumber, given, outside, soilCheck}
 use Rattle.month.specs.declared.Answer.{Answer}
 use Rattle.month.specs.declared.Answer.the-variants as month
@@ -68,7 +69,7 @@ landName = 76 ∷ 65 ∷ 78 ∷ 68 ∷ 32 ∷ []
 abbrev pub notOne : ℕ → Bool
 notOne count = not (eqb count 1)
 
--- .. "another count is outside 1 to 1,200".
+-- .. another count is outside 1 to 1,200.
 abbrev pub badCount : ℕ → Bool
 badCount count = ltb count 1 || ltb 1200 count
 
@@ -78,10 +79,6 @@ headed (Value.Number count next) bad line rows later = cond (bad count) (refused
 headed Value.Malformed bad line rows later = refusedOn Form line rows
 
 -- ---- the land, and the end
-
--- The five pools together.
-abbrev pub fivePools : State → ℕ
-fivePools s = total (s .soil .pools) + s .soil .iom .0
 
 -- "Nothing follows": bytes after the last line are 2 on the line after it. Else the book ran: its months, five pools, CO2 to date.
 unfoldable pub ending : List ℕ → ℕ → ℕ → ℕ → State → BookAnswer

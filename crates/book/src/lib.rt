@@ -5,9 +5,10 @@ ghost use Prim.Native.Nat.{_+_, _*_, _≤_, _<_, _^_};
 ghost use lib.ListN.{length};
 ghost use Rattle.state.specs.declared.Check.the-variants.{Pass};
 ghost use Rattle.state.specs.Refusal.{stateCheck};
-ghost use Rattle.book.specs.Book.{bookRefusalNumber, badCount, fivePools, ending, entriesOf, landRows, landSection};
+ghost use Rattle.book.specs.Book.{badCount, ending, entriesOf, landRows, landSection};
 ghost use Rattle.book.specs.Book.{weatherCheck, readWeather, weatherWritten, begunWith, weatherRows, weatherSection};
 ghost use Rattle.book.specs.Book.{soilOf, soilSection, bookOf};
+use checks::five_pools;
 use lines::LandLine;
 use lines::SoilLine;
 use lines::SoilNumbers;
@@ -17,7 +18,6 @@ use lines::land_line;
 use lines::soil_line;
 use lines::weather_line;
 use month::Answer;
-use pools::total;
 use rows::list_month;
 use rows::write_row;
 use soils::check_soil;
@@ -26,7 +26,6 @@ use state::Entries;
 use state::Refusal;
 use state::Soil;
 use state::State;
-use state::refusal_number;
 use text::Value;
 use units::Grams;
 
@@ -50,18 +49,6 @@ pub enum WeatherEnd {
     Refused(BookRefusal, u64),
 }
 
-// Document 01's number of a refusal of a book.
-pub fn book_refusal_number(r: BookRefusal) -> u64
-    ensures { λ n. ⌜ n ≡ bookRefusalNumber r ⌝ }
-{
-    match r {
-        BookRefusal::Length => 1,
-        BookRefusal::Form => 2,
-        BookRefusal::Count => 3,
-        BookRefusal::Of(refusal) => refusal_number(refusal),
-    }
-}
-
 // Whether a count of rows is outside 1 to 1,200.
 fn bad_count(count: u64) -> bool
     ensures { λ r. ⌜ r ≡ badCount count ⌝ }
@@ -70,17 +57,6 @@ fn bad_count(count: u64) -> bool
         return true;
     }
     1200 < count
-}
-
-// The five pools together.
-fn five_pools(s: State) -> Grams
-    requires { ⌜ stateCheck s ≡ Pass ⌝ }
-    ensures { λ r. ⌜ r .0 ≡ fivePools s ⌝ }
-{
-    let soil = s.soil;
-    let pools = soil.pools;
-    let active = total(pools);
-    Grams(active.0 + soil.iom.0)
 }
 
 // After the last land row: bytes that follow are refused on the line after it.

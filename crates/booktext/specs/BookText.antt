@@ -8,6 +8,7 @@ use Rattle.pools.specs.Pools.{grams}
 use Rattle.state.specs.declared.State.{State}
 use Rattle.state.specs.declared.Check.the-variants.{Pass}
 use Rattle.state.specs.NewState.{newState}
+use Rattle.state.specs.FivePools.{fivePools}
 use Rattle.state.specs.Refusal.{soilCheck}
 use Rattle.runs.specs.declared.ListRefusal.{ListRefusal}
 use Rattle.runs.specs.declared.ListRefusal.the-variants as lists
@@ -20,7 +21,7 @@ use Rattle.book.specs.declared.BookRefusal.{BookRefusal}
 use Rattle.book.specs.declared.BookRefusal.the-variants.{Count, Of}
 use Rattle.book.specs.declared.BookAnswer.{BookAnswer}
 use Rattle.book.specs.declared.BookAnswer.the-variants.{Finished, Refused}
-use Rattle.book.specs.Book.{BookLeft, soilName, weatherName, landName, fivePools, weatherCheck, soilOf}
+use Rattle.book.specs.Book.{BookLeft, soilName, weatherName, landName, weatherCheck, soilOf}
 
 -- The numbers of a weather line, of a land line, and of a book.
 pub record WeatherNumbers : Type 0 where

@@ -6,6 +6,7 @@ ghost use Rattle.state.specs.declared.Check.the-variants.{Pass};
 ghost use Rattle.state.specs.declared.Refusal.the-variants.{StateBounds};
 ghost use Rattle.state.specs.Refusal.{monthLimit, given, outOfBounds, stateCheck, turnCheck, monthCheck};
 ghost use Rattle.state.specs.Accepted.{SoundSoil};
+ghost use Rattle.state.specs.FivePools.{fivePools};
 use entries::check_entries;
 use pools::total;
 use soils::check_soil;
@@ -13,6 +14,7 @@ use state::Check;
 use state::Entries;
 use state::Refusal;
 use state::State;
+use units::Grams;
 use water::max_deficit;
 
 // 10, of a state whose soil is sound. The CO2 is tested before the pools are added to it.
@@ -74,4 +76,15 @@ pub fn check_month(s: State, number: u64, e: Entries) -> Check
         Check::Pass => check_turn(s, number, e),
         Check::Refuse(refusal) => Check::Refuse(refusal),
     }
+}
+
+// The five pools of a state that passes its checks, together.
+pub fn five_pools(s: State) -> Grams
+    requires { ⌜ stateCheck s ≡ Pass ⌝ }
+    ensures { λ r. ⌜ r .0 ≡ fivePools s ⌝ }
+{
+    let soil = s.soil;
+    let pools = soil.pools;
+    let active = total(pools);
+    Grams(active.0 + soil.iom.0)
 }

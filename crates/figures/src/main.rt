@@ -5,7 +5,6 @@ mod deficits;
 ghost use Prim.Native.Nat.{_≤_};
 ghost use Rattle.figures.specs.Figures.{KnownFigures};
 use libc::STDOUT_FILENO;
-use units::Grams;
 use units::Parts;
 
 // A line: a name, a space and a number.
@@ -52,31 +51,6 @@ fn moistures() {
     );
 }
 
-// The four pools that additions make of nothing.
-fn of_nothing(kind: u64, plant: u64, manure: u64) -> [Grams; 4]
-    requires { ⌜ (1 ≤ kind) × (kind ≤ 3) × (plant ≤ 1000000) × (manure ≤ 1000000) ⌝ }
-{
-    let none = [Grams(0), Grams(0), Grams(0), Grams(0)];
-    additions::additions(none, kind, Grams(plant), Grams(manure))
-}
-
-// The splits of plant carbon and manure.
-fn additions() {
-    let first = of_nothing(1, 61, 0);
-    line(b"plant 1 61 DPM", first[0].0);
-    line(b"plant 1 61 RPM", first[1].0);
-    let second = of_nothing(2, 1000, 0);
-    line(b"plant 2 1000 DPM", second[0].0);
-    line(b"plant 2 1000 RPM", second[1].0);
-    let third = of_nothing(3, 1004, 0);
-    line(b"plant 3 1004 DPM", third[0].0);
-    line(b"plant 3 1004 RPM", third[1].0);
-    let manure = of_nothing(1, 0, 99);
-    line(b"manure 99 DPM", manure[0].0);
-    line(b"manure 99 RPM", manure[1].0);
-    line(b"manure 99 HUM", manure[3].0);
-}
-
 // The known figures that need no month call. Those marked (P) are proved together, and stand in this promise.
 fn known_figures()
     ensures { λ r. ⌜ KnownFigures ⌝ }
@@ -84,7 +58,6 @@ fn known_figures()
     temperatures();
     clays();
     moistures();
-    additions();
 }
 
 fn main() {

@@ -41,7 +41,7 @@ has numbers n = eqb (length numbers) n
 
 -- ---- rothc_survival
 
--- What no survival number is.
+-- Returned where there is no survival number to give.
 abbrev pub noSurvival : ℕ
 noSurvival = 18446744073709551615
 
@@ -162,7 +162,7 @@ abbrev pub bookNumber : BookAnswer → ℕ
 bookNumber (books.Finished months total co2) = 0
 bookNumber (books.Refused refusal line) = bookRefusalNumber refusal
 
--- What the program writes for the book, from the output's first byte on, and how many bytes that are. 8: the output is too short for
+-- What the program writes for the book, from the output's first byte on, and how many bytes that is. 8: the output is too short for
 -- them, and then it stays as it was.
 unfoldable pub rothcBook : List ℕ → List ℕ → BookLeft
 rothcBook book out =

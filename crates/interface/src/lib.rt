@@ -6,7 +6,6 @@ ghost use lib.ListN.{length};
 ghost use Rattle.interface.specs.Interface.{rothcSurvival, rothcStart, rothcMonth, listNumber, listPlace, rothcList};
 ghost use Rattle.interface.specs.Interface.{spinNumber, spinResult, rothcSpinUp, bookNumber, rothcBook};
 use book::BookAnswer;
-use book::book_refusal_number;
 use book::run_book;
 use layouts::entries_of;
 use layouts::put_row;
@@ -15,7 +14,8 @@ use layouts::soil_of;
 use layouts::state_of;
 use list::run;
 use month::Answer;
-use month::month;
+use recurrence::call;
+use report::book_refusal_number;
 use report::write_answer;
 use runs::ListAnswer;
 use runs::list_refusal_number;
@@ -82,7 +82,7 @@ pub extern "C" fn rothc_start(soil: &[u64], state: &mut [u64]) -> u64
     }
 }
 
-// The single month call.
+// The single month call, the one that has demand 3 in its promise.
 #[no_mangle]
 pub extern "C" fn rothc_month(
     state: &mut [u64],
@@ -103,7 +103,7 @@ pub extern "C" fn rothc_month(
         return SHAPE;
     }
     let given = state_of(state);
-    let outcome = month(given, number, entries_of(entries));
+    let outcome = call(given, number, entries_of(entries));
     let answer = outcome.answer;
     let next = outcome.state;
     match answer {

@@ -14,7 +14,7 @@ unfoldable pub numbers : ℕ → List ℕ → ℕ → List ℕ
 numbers zero rows from = []
 numbers (suc left) rows from = spaced (getD rows from 0) ++ numbers left rows (from + 1)
 
--- "a line a month (month, then its row)": of the month at place j, counted from 0. Its row are the seven numbers from 7 × j on.
+-- "a line a month (month, then its row)": of the month at place j, counted from 0. Its row is the seven numbers from 7 × j on.
 unfoldable pub rowLine : List ℕ → ℕ → List ℕ
 rowLine rows j = decimal (j + 1) ++ (numbers 7 rows (7 * j) ++ (10 ∷ []))
 

@@ -26,7 +26,8 @@ use Rattle.book.specs.declared.WeatherEnd.{WeatherEnd}
 use Rattle.book.specs.declared.WeatherEnd.the-variants as weathers
 use Rattle.book.specs.declared.BookAnswer.the-variants.{Finished, Refused}
 use Rattle.book.specs.declared.BookRefusal.the-variants.{Length, Form, Count}
-use Rattle.book.specs.Book.{BookLeft, refusedOn, checkedOn, soilName, weatherName, landName, notOne, badCount, headed, fivePools}
+use Rattle.state.specs.FivePools.{fivePools}
+use Rattle.book.specs.Book.{BookLeft, refusedOn, checkedOn, soilName, weatherName, landName, notOne, badCount, headed}
 use Rattle.book.specs.Book.{ending, entriesOf, monthOn, landRow, landRows, landSection, weatherThen, readWeather}
 use Rattle.book.specs.Book.{weatherRows, weatherSection, soilOf, soilRow, soilSection, bookOf}
 use Rattle.book.proofs.Steps.{good-count}

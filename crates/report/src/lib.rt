@@ -4,12 +4,26 @@ ghost use mathlib.Core.Path.{_≡_};
 ghost use Prim.Native.Nat.{_≤_};
 ghost use lib.ListN.{length};
 ghost use Rattle.text.specs.Text.{overwritten};
+ghost use Rattle.book.specs.Book.{bookRefusalNumber};
 ghost use Rattle.report.specs.Report.{monthsRun, outputOf, reportOf};
 use book::BookAnswer;
-use book::book_refusal_number;
+use book::BookRefusal;
 use book::run_book;
 use output::write_finished;
 use output::write_refused;
+use state::refusal_number;
+
+// Document 01's number of a refusal of a book.
+pub fn book_refusal_number(r: BookRefusal) -> u64
+    ensures { λ n. ⌜ n ≡ bookRefusalNumber r ⌝ }
+{
+    match r {
+        BookRefusal::Length => 1,
+        BookRefusal::Form => 2,
+        BookRefusal::Count => 3,
+        BookRefusal::Of(refusal) => refusal_number(refusal),
+    }
+}
 
 // Writes what a book's answer and its rows give, and gives the length.
 pub fn write_answer(answer: BookAnswer, rows: &[u64; 8400], out: &mut [u8; 204_800]) -> usize

@@ -24,14 +24,6 @@ use Rattle.spinup.specs.SpinUp.{spinGiven, spinChecked, notTwelve, badYe
 
 -- ---- a year
 
--- The five pools of a sound state.
-pub record Most (s : State) : Type 0 where
-  pub active : total (s .soil .pools) ≤ 1000000000
-  pub inert : s .soil .iom .0 ≤ 1000000000
-
-pub most : (s : State) → stateCheck s ≡ Pass → Most s
-most s h = let sound = sound-state s h in record { active = sound .soil .pools; inert = sound .soil .iom }
-
 -- The state that a year leaves passes 4 to 7 and 10 again.
 pub year-sound : (weather land : List ℤ) (s : State) → stateCheck s ≡ Pass → stateCheck (yearState weather land s) ≡ Pass
 unfolding yearOutcome

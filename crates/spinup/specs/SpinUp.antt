@@ -10,6 +10,7 @@ use Rattle.state.specs.declared.State.{State}
 use Rattle.state.specs.declared.Check.{Check}
 use Rattle.state.specs.declared.Check.the-variants.{Pass, Refuse}
 use Rattle.state.specs.declared.Refusal.the-variants.{StateBounds}
+use Rattle.state.specs.FivePools.{fivePools}
 use Rattle.state.specs.Refusal.{refusalNumber, soilCheck, outOfBounds}
 use Rattle.runs.specs.declared.ListRefusal.{ListRefusal}
 use Rattle.runs.specs.declared.ListRefusal.the-variants as list
@@ -27,10 +28,6 @@ abbrev pub spinRefusalNumber : SpinRefusal → ℕ
 spinRefusalNumber Rows = 3
 spinRefusalNumber Years = 9
 spinRefusalNumber (Of refusal) = refusalNumber refusal
-
--- The five pools together.
-abbrev pub fivePools : State → ℕ
-fivePools s = total (s .soil .pools) + s .soil .iom .0
 
 -- A year settles where its end total is at most 1,000 g from the total at its start, either way.
 abbrev pub settles : State → State → Bool

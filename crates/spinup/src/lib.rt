@@ -4,10 +4,10 @@ ghost use Prim.Native.Nat.{_≤_};
 ghost use lib.ListN.{length};
 ghost use Rattle.state.specs.declared.Check.the-variants.{Pass};
 ghost use Rattle.state.specs.Refusal.{soilCheck, stateCheck};
-ghost use Rattle.spinup.specs.SpinUp.{spinRefusalNumber, fivePools, settles, spinRefused, yearRefusal, yearOutcome};
+ghost use Rattle.spinup.specs.SpinUp.{spinRefusalNumber, settles, spinRefused, yearRefusal, yearOutcome};
 ghost use Rattle.spinup.specs.SpinUp.{years, afterSoil, spinUp};
 use checks::check_state;
-use pools::total;
+use checks::five_pools;
 use runs::ListAnswer;
 use runs::ListOutcome;
 use runs::ListRefusal;
@@ -50,17 +50,6 @@ pub fn spin_refusal_number(r: SpinRefusal) -> u64
     }
 }
 
-// The five pools together.
-fn five_pools(s: State) -> u64
-    requires { ⌜ stateCheck s ≡ Pass ⌝ }
-    ensures { λ r. ⌜ r ≡ fivePools s ⌝ }
-{
-    let soil = s.soil;
-    let pools = soil.pools;
-    let active = total(pools);
-    active.0 + soil.iom.0
-}
-
 // Whether a year settles, from its start to its end.
 fn settles(start: State, end: State) -> bool
     requires { ⌜ (stateCheck start ≡ Pass) × (stateCheck end ≡ Pass) ⌝ }
@@ -68,10 +57,10 @@ fn settles(start: State, end: State) -> bool
 {
     let before = five_pools(start);
     let after = five_pools(end);
-    if before + 1000 < after {
+    if before.0 + 1000 < after.0 {
         return false;
     }
-    before <= after + 1000
+    before.0 <= after.0 + 1000
 }
 
 // A year's refusal as the spin-up's.

@@ -205,3 +205,11 @@ pub month-passes :
     → monthCheck s number e ≡ Pass
 unfolding monthCheck turnCheck
 month-passes s number e h n r = rw (h, eq-eqb number (s .months + 1) n) r
+
+-- The five pools of a sound state.
+pub record Most (s : State) : Type 0 where
+  pub active : total (s .soil .pools) ≤ 1000000000
+  pub inert : s .soil .iom .0 ≤ 1000000000
+
+pub most : (s : State) → stateCheck s ≡ Pass → Most s
+most s h = let sound = sound-state s h in record { active = sound .soil .pools; inert = sound .soil .iom }

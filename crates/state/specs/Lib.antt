@@ -1,3 +1,4 @@
 pub mod NewState
 pub mod Refusal
 pub mod Accepted
+pub mod FivePools

@@ -2,6 +2,7 @@
 //! `differ [seed [times]]`. The last line is `N compared, N differ`; status 1 if any differ.
 
 use reference::differ::{Counts, Differ, Program};
+use std::path::{Path, PathBuf};
 use std::process::ExitCode;
 use std::time::Instant;
 
@@ -134,6 +135,24 @@ impl Program for Library {
     }
 }
 
+/// The example books of the repository, each with its output beside it.
+fn examples() -> std::io::Result<Vec<(String, Vec<u8>, Vec<u8>)>> {
+    let folder = Path::new(env!("CARGO_MANIFEST_DIR")).join("../examples");
+    let mut found = Vec::new();
+    for part in [folder.clone(), folder.join("refused")] {
+        let mut books: Vec<PathBuf> = std::fs::read_dir(part)?
+            .map(|entry| Ok(entry?.path()))
+            .collect::<std::io::Result<_>>()?;
+        books.retain(|path| path.extension().is_some_and(|word| word == "book"));
+        books.sort();
+        for path in books {
+            let name = path.file_stem().unwrap_or_default().to_string_lossy().into_owned();
+            found.push((name, std::fs::read(&path)?, std::fs::read(path.with_extension("out"))?));
+        }
+    }
+    Ok(found)
+}
+
 fn main() -> ExitCode {
     let mut numbers = std::env::args().skip(1).map(|word| word.parse::<u64>());
     let (seed, times) = match (numbers.next(), numbers.next(), numbers.next()) {
@@ -156,7 +175,17 @@ fn main() -> ExitCode {
     let start = Instant::now();
     let mut progress = |text: &str| eprintln!("{:6.1} s  {text}", start.elapsed().as_secs_f64());
     let mut library = Library;
+    let examples = match examples() {
+        Ok(examples) => examples,
+        Err(error) => {
+            eprintln!("the examples: {error}");
+            return ExitCode::from(2);
+        }
+    };
     let mut differ = Differ::new(&mut library, seed, &mut progress);
+    for (name, book, output) in &examples {
+        differ.example(name, book, output);
+    }
     differ.run(&counts);
     for input in &differ.first {
         println!("{input}\n");

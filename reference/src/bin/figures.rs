@@ -2,7 +2,7 @@
 //! two tables, B's exact half, and 001's deficit table for Rothamsted in hundredths of a millimetre.
 
 use reference::exponential::{clay_factor, temperature_factor};
-use reference::model::{moisture_factor, new_deficit, split_manure, split_plant, Soil};
+use reference::model::{moisture_factor, new_deficit, Soil};
 
 fn soil(clay: i128, depth: i128) -> Soil {
     Soil { clay, depth, kind: 1, pools: [0; 4], inert: 0 }
@@ -18,13 +18,6 @@ fn main() {
     for (clay, depth, deficit) in [(234, 23, 56_925_000), (234, 23, 93_034_908), (100, 23, 59_046_750)] {
         println!("B {clay} {depth} {deficit} {}", moisture_factor(&soil(clay, depth), deficit));
     }
-    for (kind, plant) in [(1, 61), (2, 1000), (3, 1004)] {
-        let (dpm, rpm) = split_plant(kind, plant);
-        println!("plant {kind} {plant} DPM {dpm}");
-        println!("plant {kind} {plant} RPM {rpm}");
-    }
-    let (dpm, rpm, hum) = split_manure(99);
-    println!("manure 99 DPM {dpm}\nmanure 99 RPM {rpm}\nmanure 99 HUM {hum}");
     let months = ["Jan", "Feb", "Mar", "Apr", "May", "Jun", "Jul", "Aug", "Sep", "Oct", "Nov", "Dec"];
     let rain = [740, 590, 620, 510, 520, 570, 340, 550, 580, 560, 750, 710];
     let evaporation = [80, 100, 270, 490, 830, 990, 1030, 910, 690, 340, 160, 80];

@@ -14,13 +14,10 @@ clays-requires c κs = search needs
 moistures-requires : tie.Need-moistures-requires
 moistures-requires c κs = search needs
 
-additions-requires : tie.Need-additions-requires
-additions-requires c κs = search needs
-
 returns : tie.Need-returns
 returns c = known-figures
 
 pub known-figures-spec : {M : Type 1} → statement M
 known-figures-spec =
     tie.close
-    (tie.spec temperatures-requires clays-requires moistures-requires additions-requires returns)
+    (tie.spec temperatures-requires clays-requires moistures-requires returns)

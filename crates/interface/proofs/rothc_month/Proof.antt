@@ -20,8 +20,8 @@ state-of-requires c κs = c .before .before .before .if1 .left
 entries-of-requires : tie.Need-entries-of-requires
 entries-of-requires c κs = c .before .before .before .if2 .left
 
-month-requires : tie.Need-month-requires
-month-requires c κs = tt
+call-requires : tie.Need-call-requires
+call-requires c κs = tt
 
 enum-known-answer : tie.Need-enum-known-answer
 enum-known-answer c = search needs
@@ -56,7 +56,7 @@ returns-4 c =
     (sizes .if3 .left)
     (called .before .before .state-of .ensures)
     (called .before .entries-of .ensures)
-    (called .month .ensures .0)
+    (called .call .ensures .0)
     (told .answer .given .1)
     (put .put-state .ensures)
     (wrote .put-row .ensures)
@@ -74,7 +74,7 @@ returns-5 c =
     (sizes .if3 .left)
     (called .before .before .state-of .ensures)
     (called .before .entries-of .ensures)
-    (called .month .ensures .0)
+    (called .call .ensures .0)
     (told .answer2 .given .1)
     (c .refusal-number .ensures)
 
@@ -87,7 +87,7 @@ rothc-month-spec =
     returns-3
     state-of-requires
     entries-of-requires
-    month-requires
+    call-requires
     enum-known-answer
     put-state-requires
     put-row-requires

@@ -8,8 +8,9 @@ use borrow.Author.Needs.{needs}
 use borrow.Author.Tests.{le-leb, lt-leb}
 use lib.Dec.{leb}
 use Rattle.state.specs.declared.State.{State}
-use Rattle.spinup.specs.SpinUp.{fivePools, settles}
-use Rattle.spinup.proofs.Laws.{most}
+use Rattle.state.specs.FivePools.{fivePools}
+use Rattle.state.proofs.Checks.{most}
+use Rattle.spinup.specs.SpinUp.{settles}
 use Rattle.spinup.proofs.settles.Statement.{statement}
 use Rattle.spinup.proofs.settles.Tie as tie
 
@@ -27,7 +28,7 @@ five-pools-requires-2 : tie.Need-five-pools-requires-2
 five-pools-requires-2 c κs = search needs
 
 -- both totals are small
-small : (c : tie.After-five-pools2) → (c .before .five-pools .result ≤ 2000000000) × (c .five-pools2 .result ≤ 2000000000)
+small : (c : tie.After-five-pools2) → (c .before .five-pools .result .0 ≤ 2000000000) × (c .five-pools2 .result .0 ≤ 2000000000)
 small c =
     let start = c .before .before in
     let first = most (start .args .start) (start .pre .0) in
@@ -37,20 +38,23 @@ small c =
     )
 
 add-if1 : tie.Need-add-if1
-add-if1 c = let totals = small c in omega (arith, totals .0, totals .1)
+add-if1 c = let totals = small (c .before) in omega (arith, totals .0, totals .1)
 
 returns : tie.Need-returns
 returns c =
-    let a = c .before .before .before .args in
-    above (a .start) (a .end) (c .before .before .five-pools .ensures) (c .before .five-pools2 .ensures) (c .if1 .taken)
+    let pools = c .before .before .before in
+    let a = pools .before .before .args in
+    above (a .start) (a .end) (pools .before .five-pools .ensures) (pools .five-pools2 .ensures) (c .if1 .taken)
 
 add-result : tie.Need-add-result
-add-result c = let totals = small (c .before) in omega (arith, totals .0, totals .1)
+add-result c = let totals = small (c .before .before .before .before) in omega (arith, totals .0, totals .1)
 
 returns-2 : tie.Need-returns-2
 returns-2 c =
-    let a = c .before .before .before .args in
-    not-above (a .start) (a .end) (c .before .before .five-pools .ensures) (c .before .five-pools2 .ensures) (c .if1 .left)
+    let test = c .before .before in
+    let pools = test .before .before .before in
+    let a = pools .before .before .args in
+    not-above (a .start) (a .end) (pools .before .five-pools .ensures) (pools .five-pools2 .ensures) (test .if1 .left)
 
 pub settles-spec : {M : Type 1} → statement M
 settles-spec =

@@ -1,10 +1,10 @@
--- `book::five_pools` meets its contract: a sound state has few enough grams that the sums fit.
+-- `checks::five_pools` meets its contract: a sound state has few enough grams that the sums fit.
 -- Assumes nothing.
 use native.Mathlib.Omega.{arith}
 use borrow.Author.Needs.{needs}
-use Rattle.book.proofs.Steps.{most}
-use Rattle.book.proofs.five_pools.Statement.{statement}
-use Rattle.book.proofs.five_pools.Tie as tie
+use Rattle.state.proofs.Checks.{most}
+use Rattle.checks.proofs.five_pools.Statement.{statement}
+use Rattle.checks.proofs.five_pools.Tie as tie
 
 total-requires : tie.Need-total-requires
 total-requires c κs =
