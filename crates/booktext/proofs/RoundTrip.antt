@@ -53,8 +53,8 @@ read-rows (x ∷ xs) s at i rest (text.more pass sound) e =
 
 -- ---- the land
 
--- The entries of a land row that stands at its place in the list.
-entries-same :
+-- The entries of a land row that stands at its place in the list, ..
+pub entries-same :
     (weather land : List ℤ) (j cover plant manure : ℕ) (rest : List ℤ) → drop (3 * j) land ≡ pos cover ∷ pos plant ∷ pos manure ∷ rest
     → entriesOf weather j cover plant manure ≡ entriesAt weather land j
 unfolding entriesOf entriesAt
@@ -63,6 +63,15 @@ entries-same weather land j cover plant manure rest e =
     λ i. sym (getD-drop (3 * j) land i (pos 0)) ∙ ap (λ (l : List ℤ). getD l i (pos 0)) e in
     let first : getD land (3 * j) (pos 0) ≡ pos cover = ap (λ (k : ℕ). getD land k (pos 0)) (sym (add-zero (3 * j))) ∙ at 0 in
     rw (first, at 1, at 2)
+
+-- .. and the numbers of the rows after it.
+pub numbers-after :
+    (land : List ℤ) (j : ℕ) (x : LandNumbers) (xs : List LandNumbers) → drop (3 * j) land ≡ landList (x ∷ xs)
+    → drop (3 * suc j) land ≡ landList xs
+unfolding landList
+numbers-after land j x xs e =
+    let three : 3 * suc j ≡ 3 * j + 3 = omega arith in
+    ap (λ (n : ℕ). drop n land) three ∙ sym (drop-drop 3 (3 * j) land) ∙ ap (drop 3) e
 
 module _ (s : List ℕ) (head : ℕ) (weather land : List ℤ) (count : ℕ) where
   -- What is left of the land's lines, and of the list's numbers, from a row on.
@@ -106,13 +115,11 @@ module _ (s : List ℕ) (head : ℕ) (weather land : List ℤ) (count : ℕ) whe
   rows-run (x ∷ xs) at j state out (text.more cover plant manure values) rest =
       let line : List ℕ = landText (x .cover) (x .plant) (x .manure) in
       let next : ℕ = at + length line in
-      let three : 3 * suc j ≡ 3 * j + 3 = omega arith in
       let later : Rest xs next (suc j) =
       record {
         text = after s at line (landLines xs) (rest .text);
         size = omega (arith, rest .size, length-append line (landLines xs));
-        numbers =
-            ap (λ (n : ℕ). drop n land) three ∙ sym (drop-drop 3 (3 * j) land) ∙ ap (drop 3) (rest .numbers);
+        numbers = numbers-after land j x xs (rest .numbers);
         rows = omega (arith, rest .rows);
       } in
       by-answer x xs at next j state out (listMonth state (entriesAt weather land j) .answer)

@@ -14,7 +14,7 @@ use Rattle.runs.specs.declared.ListRefusal.{ListRefusal}
 use Rattle.runs.specs.declared.ListRefusal.the-variants as lists
 use Rattle.runs.specs.declared.ListAnswer.{ListAnswer}
 use Rattle.runs.specs.declared.ListAnswer.the-variants as answers
-use Rattle.runs.specs.Run.{Left, months}
+use Rattle.runs.specs.Run.{Left, months, run}
 use Rattle.lines.specs.declared.SoilNumbers.{SoilNumbers}
 use Rattle.lines.specs.LineText.{headText, soilText, weatherText, landText}
 use Rattle.book.specs.declared.BookRefusal.{BookRefusal}
@@ -80,6 +80,7 @@ pub record Counted (n : ℕ) : Type 0 where
   pub least : 1 ≤ n
   pub most : n ≤ 1200
 
+-- A book of which 1 to 7, 13 and 14 refuse nothing. Its months may still be refused, by 15 to 17.
 pub record WellFormed (b : BookNumbers) : Type 0 where
   pub soil : soilCheck (soilOf (b .soil)) ≡ Pass
   pub weather-count : Counted (length (b .weather))
@@ -104,7 +105,7 @@ unfoldable pub landList : List LandNumbers → List ℤ
 landList [] = []
 landList (x ∷ xs) = pos (x .cover) ∷ pos (x .plant) ∷ pos (x .manure) ∷ landList xs
 
--- A list's refusal as a book's. (8 has no number of a book's; 3 and 8 are asked before a list's months.)
+-- A list's refusal as a book's. (`months` gives neither of the first two: 3 and 8 are asked before it.)
 abbrev pub refusalOfList : ListRefusal → BookRefusal
 refusalOfList lists.Rows = Count
 refusalOfList lists.Room = Count
@@ -121,8 +122,15 @@ unfoldable pub ofList : ℕ → ℕ → Left → BookLeft
 ofList head count left =
     record { answer = answerOfList (left .outcome .answer) (left .outcome .state) head count; rows = left .output }
 
--- What step 7's list makes of a book's numbers, from the new state of its soil.
+-- What step 7's list leaves of a book's numbers, from the new state of its soil: its months alone, ..
+abbrev pub monthsOf : BookNumbers → List ℕ → Left
+monthsOf b rows =
+    months (length (b .land)) (weatherList (b .weather)) (landList (b .land)) 0 (newState (soilOf (b .soil))) rows
+
+-- .. and the whole list, whose checks 3, 4 to 7, 8 and 10 come before its months.
+abbrev pub runOf : BookNumbers → List ℕ → Left
+runOf b rows = run (newState (soilOf (b .soil))) (weatherList (b .weather)) (landList (b .land)) rows
+
+-- What step 7's list makes of a book's numbers.
 unfoldable pub listOf : BookNumbers → List ℕ → BookLeft
-listOf b rows =
-    ofList (length (b .weather) + 4) (length (b .land))
-    (months (length (b .land)) (weatherList (b .weather)) (landList (b .land)) 0 (newState (soilOf (b .soil))) rows)
+listOf b rows = ofList (length (b .weather) + 4) (length (b .land)) (monthsOf b rows)

@@ -1,1 +1,4 @@
 pub mod BookText
+pub mod Balance
+pub mod January
+pub mod Numbers
