@@ -1,37 +1,13 @@
-"""January 1852 at Hoosfield, by the month call, by a list of one month and by a book: january.py librothc.so
+"""January 1852 at Hoosfield, by the month call, by a list of one month and by a book.
 
-include/rothc.h says what each function does and what each number is.
+    python3 examples/python/january.py       (after ./library)
 """
 import ctypes
-import sys
 
-Unsigned, Signed, Byte, Size = ctypes.c_uint64, ctypes.c_int64, ctypes.c_uint8, ctypes.c_size_t
-TEXT = 204800  # the most bytes that are written for a book
+from rothc import Byte, Signed, Unsigned, done, lent, load
+
+TEXT = 204800  # always enough bytes for what is written for a book
 BOOK = b"SOIL 1\n234 23 1 153300 4485200 667100 25857600 2700000\nWEATHER 1\n34 740 80\nLAND 1\n0 0 0\n"
-
-
-def load(path):
-    library = ctypes.CDLL(path)
-    numbers, signed, octets = ([ctypes.POINTER(kind), Size] for kind in (Unsigned, Signed, Byte))
-    for name, arguments in {
-        "rothc_start": numbers + numbers,
-        "rothc_month": numbers + [Unsigned] + signed + numbers,
-        "rothc_list": numbers + signed + signed + numbers + [ctypes.POINTER(Unsigned)],
-        "rothc_book": octets + octets + [ctypes.POINTER(Unsigned)],
-    }.items():
-        getattr(library, name).argtypes = arguments
-        getattr(library, name).restype = Unsigned
-    return library
-
-
-def lent(kind, numbers):
-    """Numbers as memory to lend: the array, for its pointer, and its length."""
-    return (kind * len(numbers))(*numbers), len(numbers)
-
-
-def done(call, number):
-    if number:
-        sys.exit(f"{call}: refused, {number}")
 
 
 def show(month, row, state):
@@ -41,7 +17,7 @@ def show(month, row, state):
 
 
 def main():
-    rothc = load(sys.argv[1])
+    rothc = load()
     soil = lent(Unsigned, [234, 23, 1, 153300, 4485200, 667100, 25857600, 2700000])
     start = lent(Unsigned, [0] * 11)
     done("rothc_start", rothc.rothc_start(*soil, *start))

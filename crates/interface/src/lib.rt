@@ -3,6 +3,8 @@
 ghost use mathlib.Core.Path.{_≡_};
 ghost use Prim.Native.Nat.{_≤_};
 ghost use lib.ListN.{length};
+ghost use Rattle.runs.specs.Run.{listRefusalNumber};
+ghost use Rattle.spinup.specs.SpinUp.{spinRefusalNumber};
 ghost use Rattle.interface.specs.Interface.{rothcSurvival, rothcStart, rothcMonth, listNumber, listPlace, rothcList};
 ghost use Rattle.interface.specs.Interface.{spinNumber, spinResult, rothcSpinUp, bookNumber, rothcBook};
 use book::BookAnswer;
@@ -18,10 +20,10 @@ use recurrence::call;
 use report::book_refusal_number;
 use report::write_answer;
 use runs::ListAnswer;
-use runs::list_refusal_number;
+use runs::ListRefusal;
 use soils::start;
 use spinup::SpinAnswer;
-use spinup::spin_refusal_number;
+use spinup::SpinRefusal;
 use spinup::spin_up;
 use state::Check;
 use state::refusal_number;
@@ -116,6 +118,17 @@ pub extern "C" fn rothc_month(
     }
 }
 
+// Document 01's number of a refusal of a list.
+fn list_refusal_number(r: ListRefusal) -> u64
+    ensures { λ n. ⌜ n ≡ listRefusalNumber r ⌝ }
+{
+    match r {
+        ListRefusal::Rows => 3,
+        ListRefusal::Room => 8,
+        ListRefusal::Of(refusal) => refusal_number(refusal),
+    }
+}
+
 // The number of a list's answer.
 fn list_number(answer: ListAnswer) -> u64
     ensures { λ r. ⌜ r ≡ listNumber answer ⌝ }
@@ -157,6 +170,17 @@ pub extern "C" fn rothc_list(
     put_state(state, after);
     *place = list_place(answer);
     list_number(answer)
+}
+
+// Document 01's number of a refusal of a spin-up.
+fn spin_refusal_number(r: SpinRefusal) -> u64
+    ensures { λ n. ⌜ n ≡ spinRefusalNumber r ⌝ }
+{
+    match r {
+        SpinRefusal::Rows => 3,
+        SpinRefusal::Years => 9,
+        SpinRefusal::Of(refusal) => refusal_number(refusal),
+    }
 }
 
 // The number of a spin-up's answer.

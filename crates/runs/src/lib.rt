@@ -5,14 +5,13 @@ ghost use Prim.Native.Nat.{_*_, _≤_};
 ghost use lib.ListN.{length};
 ghost use Rattle.state.specs.declared.Check.the-variants.{Pass};
 ghost use Rattle.state.specs.Refusal.{stateCheck};
-ghost use Rattle.runs.specs.Run.{listRefusalNumber, answerWith, months};
+ghost use Rattle.runs.specs.Run.{answerWith, months};
 use month::Answer;
 use rows::entries_at;
 use rows::list_month;
 use rows::write_row;
 use state::Refusal;
 use state::State;
-use state::refusal_number;
 
 // Why a list is refused: its rows (3), its output (8), or its state or one of its months.
 pub enum ListRefusal {
@@ -31,17 +30,6 @@ pub enum ListAnswer {
 pub struct ListOutcome {
     pub answer: ListAnswer,
     pub state: State,
-}
-
-// Document 01's number of a refusal of a list.
-pub fn list_refusal_number(r: ListRefusal) -> u64
-    ensures { λ n. ⌜ n ≡ listRefusalNumber r ⌝ }
-{
-    match r {
-        ListRefusal::Rows => 3,
-        ListRefusal::Room => 8,
-        ListRefusal::Of(refusal) => refusal_number(refusal),
-    }
 }
 
 // The list's answer where it ends with a month's answer, at that month's place.

@@ -4,7 +4,7 @@ ghost use Prim.Native.Nat.{_≤_};
 ghost use lib.ListN.{length};
 ghost use Rattle.state.specs.declared.Check.the-variants.{Pass};
 ghost use Rattle.state.specs.Refusal.{soilCheck, stateCheck};
-ghost use Rattle.spinup.specs.SpinUp.{spinRefusalNumber, settles, spinRefused, yearRefusal, yearOutcome};
+ghost use Rattle.spinup.specs.SpinUp.{settles, spinRefused, yearRefusal, yearOutcome};
 ghost use Rattle.spinup.specs.SpinUp.{years, afterSoil, spinUp};
 use checks::check_state;
 use checks::five_pools;
@@ -16,7 +16,6 @@ use soils::check_soil;
 use state::Check;
 use state::Refusal;
 use state::State;
-use state::refusal_number;
 
 // Why a spin-up is refused: its rows (3), its years (9), or its state or one of its months.
 pub enum SpinRefusal {
@@ -37,17 +36,6 @@ pub enum SpinAnswer {
 pub struct SpinOutcome {
     pub answer: SpinAnswer,
     pub state: State,
-}
-
-// Document 01's number of a refusal of a spin-up.
-pub fn spin_refusal_number(r: SpinRefusal) -> u64
-    ensures { λ n. ⌜ n ≡ spinRefusalNumber r ⌝ }
-{
-    match r {
-        SpinRefusal::Rows => 3,
-        SpinRefusal::Years => 9,
-        SpinRefusal::Of(refusal) => refusal_number(refusal),
-    }
 }
 
 // Whether a year settles, from its start to its end.
