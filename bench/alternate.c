@@ -1,5 +1,6 @@
-// Times two programs on one input, process start included, in alternation: alternate RUNS INPUT FIRST SECOND.
-// Their output goes to a pipe that is read to its end, as a user's would. Writes both medians and the median ratio of the pairs.
+// Times two programs on one input, process start included, in alternation: alternate RUNS INPUT
+// FIRST SECOND. Their output goes to a pipe that is read to its end, as a user's would. Writes both
+// medians and the median ratio of the pairs.
 #include <fcntl.h>
 #include <stdio.h>
 #include <stdlib.h>

@@ -1,5 +1,6 @@
-// An ordinary floating-point RothC for a book, as one would write it in C: stdio, libm's exp, doubles. bench/book times it beside the
-// proved program on the same book. It checks nothing and rounds only what it prints.
+// An ordinary floating-point RothC for a book, as one would write it in C: stdio, libm's exp,
+// doubles. bench/book times it beside the proved program on the same book. It checks nothing and
+// rounds only what it prints.
 #include <math.h>
 #include <stdio.h>
 

@@ -1,5 +1,5 @@
-// Times the proved functions beside an ordinary floating-point RothC, in one run and in alternation, and writes medians and ratios.
-// bench/run builds and runs it.
+// Times the proved functions beside an ordinary floating-point RothC, in one run and in
+// alternation, and writes medians and ratios. bench/run builds and runs it.
 #include <math.h>
 #include <stdint.h>
 #include <stdio.h>
@@ -13,7 +13,8 @@ static const int64_t rothamsted[36] = {34, 740, 80, 36, 590, 100, 51, 620, 270, 
                                        160, 340, 1030, 160, 550, 910, 135, 580, 690, 102, 560, 340, 61, 750, 160, 46, 710, 80};
 static const int64_t crops[36] = {0, 0, 0, 0, 0, 0, 0, 0, 0, 1, 160000, 0, 1, 320000, 0, 1, 480000, 0,
                                   1, 640000, 0, 0, 0, 0, 0, 0, 0, 0, 0, 0, 0, 0, 0, 0, 0, 0};
-// Every month at -5 degrees: the pools grow for longer than 10,000 years, so that the spin-up never settles.
+// Every month at -5 degrees: the pools grow for longer than 10,000 years, so that the spin-up never
+// settles.
 static int64_t cold[36], residue[36], land[3600];
 
 typedef struct { double dpm, rpm, bio, hum, iom, deficit, gas; } field;
@@ -122,7 +123,8 @@ int main(void) {
     residue[3 * m] = crops[3 * m], residue[3 * m + 1] = 100000, residue[3 * m + 2] = 0;
   }
   for (int j = 0; j < 3600; j++) land[j] = crops[j % 36];
-  // The four survival numbers of a month over random N, beside four calls of exp. (rothc_survival makes the four and returns one.)
+  // The four survival numbers of a month over random N, beside four calls of exp. (rothc_survival
+  // makes the four and returns one.)
   for (int i = 0; i < NUMBERS; i++) {
     x ^= x << 13, x ^= x >> 7, x ^= x << 17;
     n[i] = x % 8363900001ull;

@@ -1,4 +1,5 @@
-"""Writes the three Hoosfield books of 001, part 2.1, as this folder has them: 1,200 months, 1852 to 1951.
+"""Writes the three Hoosfield books of 001, part 2.1, as this folder has them: 1,200 months, 1852 to
+1951.
 
     python3 examples/hoosfield.py unmanured       > examples/hoosfield-unmanured.book
     python3 examples/hoosfield.py manured         > examples/hoosfield-manured.book
@@ -7,7 +8,8 @@
 import sys
 
 SOIL = "234 23 1 153300 4485200 667100 25857600 2700000"  # 001's state on 31 December 1851
-# 001 prints the rain and the open-pan evaporation; examples/README.md says where the temperatures come from.
+# 001 prints the rain and the open-pan evaporation; examples/README.md says where the temperatures
+# come from.
 TEMPERATURE = [34, 36, 51, 73, 110, 139, 160, 160, 135, 102, 61, 46]
 RAIN = [740, 590, 620, 510, 520, 570, 340, 550, 580, 560, 750, 710]
 EVAPORATION = [80, 100, 270, 490, 830, 990, 1030, 910, 690, 340, 160, 80]
@@ -25,7 +27,7 @@ def plant_of(plot, year):
 
 
 def manure_of(plot, year, month):
-    """The manure carbon of a month in grams: 3 t in February, later in November, and both in 1931."""
+    """A month's manure carbon in grams: 3 t in February, later in November, and both in 1931."""
     if plot == "manured-to-1871":
         spread = month == 2 and year <= 1871
     elif plot == "manured":

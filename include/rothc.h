@@ -2,21 +2,26 @@
  *
  *     cc -Iinclude program.c target/library/librothc.a
  *
- * builds a program: nothing else has to be linked but the C library that cc links anyway. examples/library builds the archive (and a
- * shared object) and runs a program in C, Rust and Python over it. The archive is for x86-64 Linux.
+ * builds a program: nothing else has to be linked but the C library that cc links anyway.
+ * examples/library builds the archive (and a shared object) and runs a program in C, Rust and
+ * Python over it. The archive is for x86-64 Linux.
  *
- * Units. Carbon is in whole grams a hectare (a tonne is 1,000,000 g). Rain and open-pan evaporation are in tenths of a millimetre,
- * temperature in tenths of a degree Celsius, clay in tenths of a percent, depth in whole centimetres. The soil moisture deficit is in
- * parts, 2,070,000 to the millimetre.
+ * Units. Carbon is in whole grams a hectare (a tonne is 1,000,000 g). Rain and open-pan evaporation
+ * are in tenths of a millimetre, temperature in tenths of a degree Celsius, clay in tenths of a
+ * percent, depth in whole centimetres. The soil moisture deficit is in parts, 2,070,000 to the
+ * millimetre.
  *
- * Memory. The caller lends all memory, as a pointer and a length counted in elements (not in bytes); nothing is kept, allocated or
- * shared between calls, so that calls on different memory can run at the same time. Each pointer points to as many elements as its
- * length says, also where that is 0, and is not null. Memory that a call may write (a pointer without const) overlaps no other memory that
- * the same call is lent. This the caller has to see to: everything else is checked, and refused with a number.
+ * Memory. The caller lends all memory, as a pointer and a length counted in elements (not in
+ * bytes); nothing is kept, allocated or shared between calls, so that calls on different memory can
+ * run at the same time. Each pointer points to as many elements as its length says, also where that
+ * is 0, and is not null. Memory that a call may write (a pointer without const) overlaps no other
+ * memory that the same call is lent. This the caller has to see to: everything else is checked, and
+ * refused with a number.
  *
- * Answers. Each call but rothc_survival returns 0 where it did what it was asked, one of the refusals below where it did not, or
- * ROTHC_SHAPE where memory of a fixed layout (soil, state, entries, row, result) has another length. What a refused call leaves in the
- * memory is said at each function. With ROTHC_SHAPE it leaves everything as it was.
+ * Answers. Each call but rothc_survival returns 0 where it did what it was asked, one of the
+ * refusals below where it did not, or ROTHC_SHAPE where memory of a fixed layout (soil, state,
+ * entries, row, result) has another length. What a refused call leaves in the memory is said at
+ * each function. With ROTHC_SHAPE it leaves everything as it was.
  */
 #ifndef ROTHC_H
 #define ROTHC_H
@@ -28,29 +33,34 @@
 extern "C" {
 #endif
 
-/* What a call can return. The refusals have the numbers of the program's REFUSED line. Of several that apply the lowest is returned; in a
- * list or a spin-up the earliest month with a fault comes first, in a book the earliest line. (rothc_book asks ROOM last; ROTHC_SHAPE comes
- * before everything.) */
+/* What a call can return. The refusals have the numbers of the program's REFUSED line. Of several
+ * that apply, the first in checking order is returned: docs/REFUSALS.md has the order of each call.
+ * In a list or a spin-up the earliest month with a fault comes first, in a book the earliest line.
+ * (rothc_book asks ROOM last; ROTHC_SHAPE comes before everything.) */
 enum {
   ROTHC_DONE = 0,
-  ROTHC_BOOK_LENGTH = 1, /* the book is longer than 65,536 bytes */
-  ROTHC_LINE = 2,        /* a line of the book is missing or isn't of its form */
-  ROTHC_ROWS = 3,        /* SOIL's count isn't 1, another count or a number of rows is outside 1 to 1,200, or a list isn't three numbers a row (spin-up: twelve rows) */
-  ROTHC_CLAY = 4,        /* clay is outside 0 to 1000 */
-  ROTHC_DEPTH = 5,       /* depth is outside 1 to 100 */
-  ROTHC_KIND = 6,        /* the plant kind is not 1, 2 or 3 */
-  ROTHC_CARBON = 7,      /* the active pools together, or IOM, exceed 1,000,000,000 */
-  ROTHC_ROOM = 8,        /* the output is too short */
-  ROTHC_YEARS = 9,       /* spin-up years are outside 1 to 10,000 */
-  ROTHC_STATE_BOUNDS = 10, /* a state's deficit is above its soil's largest, it has more than 120,000 months, or CO2 and active pools
-                              together are above 1,000,000,000 + 200,000,000 x months */
+  ROTHC_BOOK_LENGTH = 1,   /* the book is longer than 65,536 bytes */
+  ROTHC_LINE = 2,          /* a line of the book is missing or isn't of its form */
+  ROTHC_ROWS = 3,          /* SOIL's count isn't 1, another count or a number of rows is outside
+                              1 to 1,200, or a list isn't three numbers a row (spin-up: twelve
+                              rows) */
+  ROTHC_CLAY = 4,          /* clay is outside 0 to 1000 */
+  ROTHC_DEPTH = 5,         /* depth is outside 1 to 100 */
+  ROTHC_KIND = 6,          /* the plant kind is not 1, 2 or 3 */
+  ROTHC_CARBON = 7,        /* the active pools together, or IOM, exceed 1,000,000,000 */
+  ROTHC_ROOM = 8,          /* the output is too short */
+  ROTHC_YEARS = 9,         /* spin-up years are outside 1 to 10,000 */
+  ROTHC_STATE_BOUNDS = 10, /* a state's deficit is above its soil's largest, it has more than
+                              120,000 months, or CO2 and active pools together are above
+                              1,000,000,000 + 200,000,000 x months */
   ROTHC_TURN = 11,         /* the month's number isn't months done plus 1 */
   ROTHC_MONTH_LIMIT = 12,  /* 120,000 months are done */
   ROTHC_TEMPERATURE = 13,  /* temperature is outside -400 to 500 */
   ROTHC_WATER = 14,        /* rain or evaporation is outside 0 to 20,000 */
   ROTHC_COVER = 15,        /* cover is neither 0 nor 1 */
   ROTHC_ADDITIONS = 16,    /* plant or manure is outside 0 to 100,000,000 */
-  ROTHC_CEILING = 17,      /* active pools before the month, plus plant and manure, exceed 1,000,000,000 */
+  ROTHC_CEILING = 17,      /* active pools before the month, plus plant and manure, exceed
+                              1,000,000,000 */
   ROTHC_SHAPE = 100        /* memory of a fixed layout has another length */
 };
 
@@ -61,7 +71,8 @@ enum { ROTHC_SOIL = 8, ROTHC_STATE = 11, ROTHC_ENTRIES = 6, ROTHC_ROW = 7, ROTHC
 enum {
   ROTHC_SOIL_CLAY = 0,
   ROTHC_SOIL_DEPTH = 1,
-  ROTHC_SOIL_KIND = 2, /* 1 crops and improved grassland, 2 unimproved grassland and scrub, 3 woodland */
+  ROTHC_SOIL_KIND = 2, /* 1 crops and improved grassland, 2 unimproved grassland and scrub,
+                          3 woodland */
   ROTHC_SOIL_DPM = 3,  /* decomposable plant material */
   ROTHC_SOIL_RPM = 4,  /* resistant plant material */
   ROTHC_SOIL_BIO = 5,  /* microbial biomass */
@@ -72,7 +83,8 @@ enum {
   ROTHC_STATE_CO2 = 10    /* CO2 to date, grams of carbon */
 };
 
-/* A month's entries, 6 x int64_t. A list's weather row is the first three and its land row the last three. */
+/* A month's entries, 6 x int64_t. A list's weather row is the first three and its land row the last
+ * three. */
 enum {
   ROTHC_ENTRIES_TEMPERATURE = 0,
   ROTHC_ENTRIES_RAIN = 1,
@@ -82,7 +94,8 @@ enum {
   ROTHC_ENTRIES_MANURE = 5
 };
 
-/* A month's row, 7 x uint64_t: the pools after the month, the CO2 of the month and the deficit after it. */
+/* A month's row, 7 x uint64_t: the pools after the month, the CO2 of the month and the deficit
+ * after it. */
 enum {
   ROTHC_ROW_DPM = 0,
   ROTHC_ROW_RPM = 1,
@@ -102,46 +115,60 @@ enum { ROTHC_RESULT_SETTLED = 0, ROTHC_RESULT_YEARS = 1 };
 /* What rothc_survival returns where it has no number to give. */
 #define ROTHC_NO_SURVIVAL UINT64_MAX
 
-/* The survival number of a pool in a month of rate number n: what the pool keeps of 1,000,000,000. pool is 0 for DPM, 1 for RPM, 2 for
- * BIO, 3 for HUM. Returns ROTHC_NO_SURVIVAL where pool is above 3 or n above 8,363,900,000, the largest rate number of a month. */
+/* The survival number of a pool in a month of rate number n: what the pool keeps of 1,000,000,000.
+ * pool is 0 for DPM, 1 for RPM, 2 for BIO, 3 for HUM. Returns ROTHC_NO_SURVIVAL where pool is above
+ * 3 or n above 8,363,900,000, the largest rate number of a month. */
 uint64_t rothc_survival(uint64_t n, uint64_t pool);
 
-/* Writes the new state of a soil: the soil's numbers, and 0 for the deficit, the months done and the CO2 to date.
+/* Writes the new state of a soil: the soil's numbers, and 0 for the deficit, the months done and
+ * the CO2 to date.
  * soil: ROTHC_SOIL numbers. state: ROTHC_STATE numbers, of any values.
  * Refusals: CLAY, DEPTH, KIND, CARBON. A refusal leaves state as it was. */
 uint64_t rothc_start(const uint64_t *soil, size_t soil_len, uint64_t *state, size_t state_len);
 
-/* Runs one month: moves the state on and writes the month's row. number is the month's: months done plus 1.
- * state: ROTHC_STATE numbers. entries: ROTHC_ENTRIES numbers. row: ROTHC_ROW numbers, of any values.
- * Refusals: CLAY to CARBON for the state's soil, STATE_BOUNDS, and TURN to CEILING. A refusal leaves state and row as they were. */
-uint64_t rothc_month(uint64_t *state, size_t state_len, uint64_t number, const int64_t *entries, size_t entries_len, uint64_t *row,
-                     size_t row_len);
+/* Runs one month: moves the state on and writes the month's row. number is the month's: months done
+ * plus 1.
+ * state: ROTHC_STATE numbers. entries: ROTHC_ENTRIES numbers. row: ROTHC_ROW numbers, of any
+ * values.
+ * Refusals: CLAY to CARBON for the state's soil, STATE_BOUNDS, and TURN to CEILING. A refusal
+ * leaves state and row as they were. */
+uint64_t rothc_month(uint64_t *state, size_t state_len, uint64_t number, const int64_t *entries,
+                     size_t entries_len, uint64_t *row, size_t row_len);
 
-/* Runs a list of months, one for each land row, and writes their rows one after another to the start of rows; what lies past the last row
- * written stays. Month j, counted from 1, takes land row j and weather row ((j - 1) mod weather rows) + 1.
- * state: ROTHC_STATE numbers. weather: temperature, rain, evaporation for each row. land: cover, plant, manure for each row. rows: at
- * least ROTHC_ROW numbers a land row. place: one number.
- * Refusals: ROWS, CLAY to CARBON, ROOM, STATE_BOUNDS leave state and rows as they were and set place to 0. MONTH_LIMIT to CEILING set
- * place to the month that is refused, counted from the list's first: the months before it have run, state is the one after them, and their
- * rows are written. Where the list ran to its end, place is 0. Only rows that its months use are checked. */
-uint64_t rothc_list(uint64_t *state, size_t state_len, const int64_t *weather, size_t weather_len, const int64_t *land, size_t land_len,
-                    uint64_t *rows, size_t rows_len, uint64_t *place);
+/* Runs a list of months, one for each land row, and writes their rows one after another to the
+ * start of rows; what lies past the last row written stays. Month j, counted from 1, takes land row
+ * j and weather row ((j - 1) mod weather rows) + 1.
+ * state: ROTHC_STATE numbers. weather: temperature, rain, evaporation for each row. land: cover,
+ * plant, manure for each row. rows: at least ROTHC_ROW numbers a land row. place: one number.
+ * Refusals: ROWS, CLAY to CARBON, ROOM, STATE_BOUNDS leave state and rows as they were and set
+ * place to 0. MONTH_LIMIT to CEILING set place to the month that is refused, counted from the
+ * list's first: the months before it have run, state is the one after them, and their rows are
+ * written. Where the list ran to its end, place is 0. Only rows that its months use are checked. */
+uint64_t rothc_list(uint64_t *state, size_t state_len, const int64_t *weather, size_t weather_len,
+                    const int64_t *land, size_t land_len, uint64_t *rows, size_t rows_len,
+                    uint64_t *place);
 
-/* Repeats twelve weather and twelve land rows, year after year, until the first year whose end total (five pools) is at most 1,000 g from
- * the total at its start, or until the years are run, and leaves the state reached.
- * state: ROTHC_STATE numbers. weather, land: 36 numbers each, as in a list. years: those allowed, 1 to 10,000. result: ROTHC_RESULT
- * numbers: 1 for settled or 0 for unsettled, and the years run.
- * Refusals: ROWS, CLAY to CARBON, YEARS, STATE_BOUNDS, and MONTH_LIMIT to CEILING for one of the months. A refusal leaves state as it was;
- * result then has 0 and the month that is refused, counted over all years from the first, or 0 for a fault outside the months. */
-uint64_t rothc_spin_up(uint64_t *state, size_t state_len, const int64_t *weather, size_t weather_len, const int64_t *land, size_t land_len,
-                       uint64_t years, uint64_t *result, size_t result_len);
+/* Repeats twelve weather and twelve land rows, year after year, until the first year whose end
+ * total (five pools) is at most 1,000 g from the total at its start, or until the years are run,
+ * and leaves the state reached.
+ * state: ROTHC_STATE numbers. weather, land: 36 numbers each, as in a list. years: those allowed, 1
+ * to 10,000. result: ROTHC_RESULT numbers: 1 for settled or 0 for unsettled, and the years run.
+ * Refusals: ROWS, CLAY to CARBON, YEARS, STATE_BOUNDS, and MONTH_LIMIT to CEILING for one of the
+ * months. A refusal leaves state as it was; result then has 0 and the month that is refused,
+ * counted over all years from the first, or 0 for a fault outside the months. */
+uint64_t rothc_spin_up(uint64_t *state, size_t state_len, const int64_t *weather,
+                       size_t weather_len, const int64_t *land, size_t land_len, uint64_t years,
+                       uint64_t *result, size_t result_len);
 
-/* Runs a book, a text as docs/BOOK.md says, and writes to the start of out what the program writes for it: POOLS, a line a month and TOTAL,
- * or REFUSED with the number and the line. What lies past that text in out stays. length: one number, the text's length in bytes.
+/* Runs a book, a text as docs/BOOK.md says, and writes to the start of out what the program writes
+ * for it: POOLS, a line a month and TOTAL, or REFUSED with the number and the line. What lies past
+ * that text in out stays. length: one number, the text's length in bytes.
  * Returns the number of the refusal, or 0 where the book ran.
- * ROOM: out is too short. Then out is as it was, and length says how many bytes are wanted; ROTHC_TEXT bytes are always enough.
- * The call needs 320 kilobytes of stack. */
-uint64_t rothc_book(const uint8_t *book, size_t book_len, uint8_t *out, size_t out_len, uint64_t *length);
+ * ROOM: out is too short. Then out is as it was, and length says how many bytes are wanted;
+ * ROTHC_TEXT bytes are always enough.
+ * The call needs 352 kilobytes of stack. */
+uint64_t rothc_book(const uint8_t *book, size_t book_len, uint8_t *out, size_t out_len,
+                    uint64_t *length);
 
 #ifdef __cplusplus
 }

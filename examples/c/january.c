@@ -9,7 +9,8 @@ static const uint64_t soil[ROTHC_SOIL] = {234, 23, 1, 153300, 4485200, 667100, 2
 static const int64_t january[ROTHC_ENTRIES] = {34, 740, 80, 0, 0, 0};
 static const char book[] = "SOIL 1\n234 23 1 153300 4485200 667100 25857600 2700000\nWEATHER 1\n34 740 80\nLAND 1\n0 0 0\n";
 
-// The program's two lines: the month with its row, and the five pools together with the CO2 to date.
+// The program's two lines: the month with its row, and the five pools together with the CO2 to
+// date.
 static void print(uint64_t month, const uint64_t *row, const uint64_t *state) {
   uint64_t total = 0;
   printf("%" PRIu64, month);

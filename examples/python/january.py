@@ -11,7 +11,7 @@ BOOK = b"SOIL 1\n234 23 1 153300 4485200 667100 25857600 2700000\nWEATHER 1\n34 
 
 
 def show(month, row, state):
-    """The program's two lines: the month with its row, and the five pools together with the CO2 to date."""
+    """The program's two lines: the month with its row, and the five pools with the CO2 to date."""
     print(month, *row)
     print("TOTAL", sum(state[3:8]), state[10])
 

@@ -1,4 +1,5 @@
-"""A spin-up: the pools of Hoosfield before 1852, from bare inert carbon with 001's plant carbon and Rothamsted's weather.
+"""A spin-up: the pools of Hoosfield before 1852, from bare inert carbon with 001's plant carbon and
+Rothamsted's weather.
 
     python3 examples/python/spinup.py        (after ./library)
 """
@@ -13,7 +14,8 @@ def main():
     rothc = load()
     soil, state, result = lent(Unsigned, [234, 23, 1, 0, 0, 0, 0, 2_700_000]), lent(Unsigned, [0] * 11), lent(Unsigned, [0] * 2)
     weather = [number for row in zip(TEMPERATURE, RAIN, EVAPORATION) for number in row]
-    # 0.212 t a month from January to July and in December, under a crop; bare and nothing in the other months
+    # 0.212 t a month from January to July and in December, under a crop; bare and nothing in the
+    # other months
     land = [number for month in range(12) for number in ((0, 0, 0) if 7 <= month <= 10 else (1, 212_000, 0))]
     done("rothc_start", rothc.rothc_start(*soil, *state))
     done("rothc_spin_up", rothc.rothc_spin_up(*state, *lent(Signed, weather), *lent(Signed, land), 10_000, *result))

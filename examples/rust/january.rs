@@ -31,7 +31,8 @@ mod rothc {
     pub type State = [u64; 11];
     pub type Row = [u64; 7];
 
-    // Slices have the pointers and lengths that the functions ask for, and a `&mut` overlaps nothing else: so these are safe.
+    // Slices have the pointers and lengths that the functions ask for, and a `&mut` overlaps
+    // nothing else: so these are safe.
     pub fn start(soil: &[u64; 8]) -> Result<State, u64> {
         let mut state = [0; 11];
         match unsafe { c::rothc_start(soil.as_ptr(), soil.len(), state.as_mut_ptr(), state.len()) } {
@@ -86,7 +87,8 @@ mod rothc {
     }
 }
 
-// The program's two lines: the month with its row, and the five pools together with the CO2 to date.
+// The program's two lines: the month with its row, and the five pools together with the CO2 to
+// date.
 fn print(month: u64, row: &rothc::Row, state: &rothc::State) {
     let row: Vec<String> = row.iter().map(u64::to_string).collect();
     println!("{month} {}", row.join(" "));

@@ -1,4 +1,5 @@
-// Document 01's program: reads a book from standard input, runs it, and writes its output to standard output.
+// Document 01's program: reads a book from standard input, runs it, and writes its output to
+// standard output.
 ghost use Prim.Native.Nat.{_≤_};
 ghost use lib.ListN.{length};
 use libc::STDIN_FILENO;
@@ -45,7 +46,8 @@ fn read_book(book: &mut [u8]) -> Input
     }
 }
 
-// Where reading fails nothing is written. The array's last byte is the first one past the 65,536 that a book may have.
+// Where reading fails nothing is written. The array's last byte is the first one past the 65,536
+// that a book may have.
 fn main() {
     let mut book = [0u8; 65_537];
     let input = read_book(&mut book);
@@ -54,6 +56,6 @@ fn main() {
     }
     let length = input.length;
     let mut out = [0u8; 204_800];
-    let written = report::report(&book[..length], &mut out);
+    let written = book_report::report(&book[..length], &mut out);
     io::write_all(STDOUT_FILENO, &out[..written]);
 }

@@ -1,0 +1,244 @@
+-- ONLY SO: a book that finishes is the text of well-formed numbers, and so it ran as step 7's list of them: no other form is taken.
+-- One that doesn't is refused by one of 1 to 7 and 13 to 17.
+-- Assumes nothing.
+use mathlib.Core.Path.{_≡_, refl, _∙_, ap}
+use mathlib.Core.Bool.{Bool, true, false, cond}
+use mathlib.Core.List.{List, [], _++_, flatMap, append-nil}
+use Prim.Native.Nat.{ℕ, _+_, _*_, _≤_, _<_}
+use native.Mathlib.Omega.{arith}
+use borrow.Author.Tests.{ltb-false, lt-leb, eqb-true, not-false}
+use lib.Dec.{ltb, eqb}
+use lib.IntN.{ℤ}
+use lib.ListN.{length, drop}
+use lib.Seq.{drop-length}
+use Rattle.number_units.specs.declared.Grams.{Grams}
+use Rattle.month_state.specs.declared.Soil.{Soil}
+use Rattle.month_state.specs.declared.State.{State}
+use Rattle.month_state.specs.declared.Entries.{Entries}
+use Rattle.month_state.specs.declared.Weather.{Weather}
+use Rattle.month_state.specs.declared.Land.{Land}
+use Rattle.month_state.specs.State.{monthLimit, newState}
+use Rattle.list_rows.specs.Rows.{landWidth}
+use Rattle.month_refusals.specs.declared.Check.{Check}
+use Rattle.month_refusals.specs.declared.Check.the-variants.{Pass, Refuse}
+use Rattle.month_refusals.specs.declared.Refusal.{Refusal}
+use Rattle.month_refusals.specs.declared.Refusal.the-variants.{Length, Rows, Form}
+use Rattle.month_refusals.specs.Asked.{firstOf}
+use Rattle.month_refusals.specs.Refusals.{limitReached, soilAsked, weatherAsked, landAsked, carbonAsked, entriesAsked, soilCheck, entriesCheck}
+use Rattle.month_state.proofs.Tests.{either-false}
+use Rattle.month_call.specs.declared.Answer.the-variants as month
+use Rattle.month_call.specs.Month.{outcomeOf, listMonth}
+use Rattle.list_rows.specs.Rows.{landRows, entriesAt}
+use Rattle.list_run.specs.declared.ListAnswer.{ListAnswer}
+use Rattle.list_run.specs.declared.ListAnswer.the-variants as answers
+use Rattle.list_run.specs.Run.{Left, months}
+use Rattle.list_run.proofs.Months as courses
+use Rattle.list_run.proofs.Months.{Course, course}
+use Rattle.list_run.proofs.ListCalls.{done-months}
+use Rattle.book_values.specs.declared.Value.{Value}
+use Rattle.book_lines.specs.declared.SoilNumbers.{SoilNumbers}
+use Rattle.book_lines.specs.declared.SoilLine.{SoilLine}
+use Rattle.book_lines.specs.Lines.{headLine, soilLine}
+use Rattle.book_lines.proofs.Laws.{head-read, soil-read}
+use Rattle.book_rows.specs.declared.RowsEnd.{RowsEnd}
+use Rattle.book_rows.specs.Rows.{readWeather, readLand}
+use Rattle.book_run.specs.declared.BookAnswer.{BookAnswer}
+use Rattle.book_run.specs.declared.BookAnswer.the-variants.{Finished, Refused}
+use Rattle.book_run.specs.Book.{BookLeft, refusedOn, soilName, weatherName, landName, notOne, badCount, headed, ending, afterRows}
+use Rattle.book_run.specs.Book.{afterMonths, landMonths, landSection, landHead, weatherThen, weatherSection, weatherHead, soilOf, soilChecked}
+use Rattle.book_run.specs.Book.{soilThen, soilSection, bookOf}
+use Rattle.book_laws.specs.BookText.{weatherLineOf, landLineOf, bookText, LandValues, WeatherSound, Each}
+use Rattle.book_laws.specs.BookText.{Counted, Written, listOf}
+use Rattle.book_laws.specs.Numbers.{refusesBook}
+use Rattle.book_laws.proofs.Rows.{finds, LinesAre, written, other, rows-only, rows-most, weather-kind, land-kind}
+use Rattle.book_laws.proofs.RoundTrip.{round-trip}
+
+-- ---- the months
+
+-- A month that 12 lets pass is refused by one of 13 to 17, ..
+entries-find : {r : Refusal} (s : State) (e : Entries) → s .months < monthLimit → entriesCheck s e ≡ Refuse r → refusesBook r ≡ true
+unfolding firstOf entriesAsked limitReached weatherAsked carbonAsked landAsked
+entries-find s e few h =
+    finds (weatherAsked (e .weather) ++ carbonAsked s (e .land)) refl
+    (rw (lt-leb monthLimit (s .months) few) at h)
+
+month-finds : {r : Refusal} (s : State) (e : Entries) → s .months < monthLimit → listMonth s e .answer ≡ month.Refused r → refusesBook r ≡ true
+unfolding listMonth outcomeOf
+month-finds {r} s e few h = entries-find s e few (by-check (entriesCheck s e) h)
+  where
+    by-check : (check : Check) → outcomeOf check s e .answer ≡ month.Refused r → check ≡ Refuse r
+    by-check Pass h = absurd (let z : _≡_ {A = ℕ} 0 1 = cc in omega arith)
+    by-check (Refuse reason) h = cc
+
+-- .. and so are months that don't come to 12.
+months-find :
+    {weather land : List ℤ} {left j : ℕ} {s : State} {out : List ℕ} {end : Left} {r : Refusal} {place : ℕ}
+    → Course weather land left j s out end → s .months + left ≤ monthLimit → end .outcome .answer ≡ answers.Refused r place
+    → refusesBook r ≡ true
+months-find courses.finished few h = absurd (let z : _≡_ {A = ℕ} 0 1 = cc in omega arith)
+months-find {weather} {land} {j} {s} {r} (courses.refused reason e) few h =
+    let same : reason ≡ r = cc in
+    month-finds s (entriesAt weather land j) (omega arith) (e ∙ ap month.Refused same)
+months-find {weather} {land} {j} {s} (courses.month row e later) few h =
+    months-find later (omega (arith, done-months s (entriesAt weather land j) row e)) h
+
+list-finds :
+    {r : Refusal} {place : ℕ} (soil : Soil) (weather land : List ℤ) (rows : List ℕ) → length land ≤ landWidth * 1200
+    → months (landRows land) weather land 0 (newState soil) rows .outcome .answer ≡ answers.Refused r place → refusesBook r ≡ true
+unfolding newState
+list-finds soil weather land rows few h = months-find (course weather land (landRows land) 0 (newState soil) rows) (omega arith) h
+
+-- ---- how a book ends
+
+-- It finishes, being written so, or is refused by one of the numbers.
+data Ends (s : List ℕ) : BookAnswer → Type 0 where
+  finished : {months : ℕ} {pools co2 : Grams} → Counted months → Written s → Ends s (Finished months pools co2)
+  refused : {r : Refusal} {line : ℕ} → refusesBook r ≡ true → Ends s (Refused r line)
+
+module _ (s : List ℕ) where
+  -- By a test, a head, ..
+  by-test :
+      (test : Bool) (r : Refusal) (line : ℕ) (rows : List ℕ) (later : BookLeft) → refusesBook r ≡ true
+      → (test ≡ false → Ends s (later .answer)) → Ends s (cond test (refusedOn r line rows) later .answer)
+  by-test true r line rows later own rest = refused own
+  by-test false r line rows later own rest = rest refl
+
+  by-head :
+      (head : Value) (bad : ℕ → Bool) (line : ℕ) (rows : List ℕ) (later : ℕ → ℕ → BookLeft)
+      → ((count next : ℕ) → head ≡ Value.Number count next → bad count ≡ false → Ends s (later count next .answer))
+      → Ends s (headed head bad line rows later .answer)
+  by-head (Value.Number count next) bad line rows later rest =
+      by-test (bad count) Rows line rows (later count next) refl (λ good. rest count next refl good)
+  by-head Value.Malformed bad line rows later rest = refused refl
+
+  -- .. the soil, ..
+  by-check :
+      (x : SoilNumbers) (check : Check) (rows : List ℕ) (later : BookLeft) → soilCheck (soilOf x) ≡ check
+      → (check ≡ Pass → Ends s (later .answer)) → Ends s (soilChecked check rows later .answer)
+  unfolding soilAsked
+  by-check x Pass rows later is rest = rest refl
+  by-check x (Refuse r) rows later is rest = refused (finds (soilAsked (soilOf x)) refl is)
+
+  by-soil :
+      (line : SoilLine) (rows : List ℕ) (later : State → ℕ → BookLeft)
+      → ((x : SoilNumbers) (next : ℕ) → line ≡ SoilLine.Row x next → soilCheck (soilOf x) ≡ Pass
+      → Ends s (later (newState (soilOf x)) next .answer))
+      → Ends s (soilThen line rows later .answer)
+  by-soil (SoilLine.Row x next) rows later rest =
+      by-check x (soilCheck (soilOf x)) rows (later (newState (soilOf x)) next) refl (λ pass. rest x next refl pass)
+  by-soil SoilLine.Malformed rows later rest = refused refl
+
+  -- .. the weather, ..
+  by-weather :
+      {count at : ℕ} {end : RowsEnd} (rows : List ℕ) (later : ℕ → BookLeft) → LinesAre weatherLineOf WeatherSound count s at end
+      → ((xs : List Weather) (next : ℕ) → length xs ≡ count → Each WeatherSound xs
+      → drop at s ≡ flatMap weatherLineOf xs ++ drop next s → Ends s (later next .answer))
+      → Ends s (weatherThen end rows later .answer)
+  by-weather rows later (written {end} xs size sound text) rest = rest xs end size sound text
+  by-weather rows later (other own) rest = refused own
+
+  -- .. the months, and the land with the end of the text.
+  by-months :
+      (answer : ListAnswer) (head : ℕ) (later : BookAnswer)
+      → ((r : Refusal) (place : ℕ) → answer ≡ answers.Refused r place → refusesBook r ≡ true)
+      → Ends s later → Ends s (afterMonths answer head later)
+  by-months answers.Finished head later find rest = rest
+  by-months (answers.Refused r place) head later find rest = refused (find r place refl)
+
+  by-end :
+      (test : Bool) (place line months : ℕ) (pools co2 : Grams) → eqb place (length s) ≡ test
+      → (drop place s ≡ [] → Ends s (Finished months pools co2)) → Ends s (cond test (Finished months pools co2) (Refused Form line))
+  by-end true place line months pools co2 is rest = rest (rw (eqb-true place (length s) is) (drop-length s))
+  by-end false place line months pools co2 is rest = refused refl
+
+  by-land :
+      {count at : ℕ} {end : RowsEnd} (line : ℕ) (state : State) → Counted count → LinesAre landLineOf LandValues count s at end
+      → ((xs : List Land) → length xs ≡ count → Each LandValues xs → drop at s ≡ flatMap landLineOf xs → Written s)
+      → Ends s (afterRows end s line count state)
+  unfolding ending
+  by-land line state counted (written {end} xs size values text) rest =
+      by-end (eqb end (length s)) end line _ _ _ refl
+      (λ ends. finished counted (rest xs size values (text ∙ rw ends (append-nil (flatMap landLineOf xs)))))
+  by-land line state counted (other own) rest = refused own
+
+  land-ends :
+      (soil : Soil) (count at head : ℕ) (weather : List ℤ) (rows : List ℕ) → Counted count
+      → ((xs : List Land) → length xs ≡ count → Each LandValues xs → drop at s ≡ flatMap landLineOf xs → Written s)
+      → Ends s (landSection count s at head weather (newState soil) rows .answer)
+  unfolding landSection readLand
+  land-ends soil count at head weather rows counted rest =
+      let land = readLand count s at (head + 1) in
+      let few : length (land .numbers) ≤ landWidth * 1200 = omega (arith, counted .most, rows-most land-kind count s at (head + 1)) in
+      let left = landMonths land weather (newState soil) rows in
+      by-months (left .outcome .answer) head _ (λ r place h. list-finds soil weather (land .numbers) rows few h)
+      (by-land (head + 1 + count) (left .outcome .state) counted (rows-only land-kind count s at (head + 1)) rest)
+
+good-count : (n : ℕ) → badCount n ≡ false → Counted n
+good-count n h =
+    let parts = either-false (ltb n 1) (ltb 1200 n) h in
+    record { least = ltb-false n 1 (parts .0); most = ltb-false 1200 n (parts .1) }
+
+book-ends : (s rows : List ℕ) → Ends s (bookOf s rows .answer)
+unfolding bookOf soilSection weatherHead weatherSection landHead readWeather bookText
+book-ends s rows =
+    by-test s (ltb 65536 (length s)) Length 0 rows _ refl (λ short.
+    by-head s (headLine s 0 soilName) notOne 1 rows _ (λ one at-soil soil-head is-one.
+    by-soil s (soilLine s at-soil) rows _ (λ x at-weather-head soil pass.
+    by-head s (headLine s at-weather-head weatherName) badCount 3 rows _ (λ m at-weather weather-head good-m.
+    by-weather s rows _ (rows-only weather-kind m s at-weather 4) (λ weather at-land-head weather-count sound weather-text.
+    by-head s (headLine s at-land-head landName) badCount (m + 4) rows _ (λ n at-land land-head good-n.
+    let counted = good-count n good-n in
+    land-ends s (soilOf x) n at-land (m + 4) _ rows counted (λ land land-count values land-text.
+    let single : one ≡ 1 = eqb-true one 1 (not-false _ is-one) in
+    record {
+      numbers = record { soil = x; weather = weather; land = land };
+      good =
+          record {
+            soil = pass;
+            weather-count = rw weather-count (good-count m good-m);
+            weather = sound;
+            land-count = rw land-count counted;
+            land = values;
+          };
+      text =
+          rw (
+            single,
+            soil-read s at-soil x at-weather-head soil .text,
+            head-read s at-weather-head weatherName m at-weather weather-head .text,
+            weather-text,
+            head-read s at-land-head landName n at-land land-head .text,
+            land-text,
+            ← weather-count,
+            ← land-count,
+          ) at (head-read s 0 soilName one at-soil soil-head .text);
+    })))))))
+
+-- ---- a book that finishes
+
+module _ {months : ℕ} {pools co2 : Grams} (s rows : List ℕ) (h : bookOf s rows .answer ≡ Finished months pools co2) where
+  found : Counted months × Written s
+  found = of-ends (rw h at (book-ends s rows))
+    where
+      of-ends : Ends s (Finished months pools co2) → Counted months × Written s
+      of-ends (finished counted text) = (counted, text)
+
+  pub book-written : Written s
+  book-written = found .1
+
+  -- It ran as step 7's list of its numbers: the answer and every row are the list's; ..
+  pub finished-runs : bookOf s rows ≡ listOf (book-written .numbers) rows
+  finished-runs =
+      ap (λ (l : List ℕ). bookOf l rows) (book-written .text) ∙ round-trip (book-written .numbers) rows (book-written .good)
+
+  -- .. from 1 to 1,200 months.
+  pub finished-count : Counted months
+  finished-count = found .0
+
+-- ---- a book that is refused
+
+-- 8 to 12 never refuse it.
+pub book-numbers : (s rows : List ℕ) (refusal : Refusal) (line : ℕ) → bookOf s rows .answer ≡ Refused refusal line → refusesBook refusal ≡ true
+book-numbers s rows refusal line h = of-ends (rw h at (book-ends s rows))
+  where
+    of-ends : Ends s (Refused refusal line) → refusesBook refusal ≡ true
+    of-ends (refused own) = own

@@ -1,0 +1,9 @@
+-- The refusals of a book.
+use mathlib.Core.Bool.{Bool, not, _&&_}
+use lib.Dec.{leb}
+use Rattle.month_refusals.specs.declared.Refusal.{Refusal}
+use Rattle.month_refusals.specs.Asked.{refusalNumber}
+
+-- 8 to 12 never refuse a book: 8, 9 and 11 ask nothing of it, and no book comes to 10 or 12.
+abbrev pub refusesBook : Refusal → Bool
+refusesBook refusal = not (leb 8 (refusalNumber refusal) && leb (refusalNumber refusal) 12)

@@ -1,0 +1,100 @@
+-- The rows of the book's WEATHER and LAND sections: each line in its turn, up to the first that is
+-- at fault. A byte is a number, a text a list of bytes, and `place` where a line begins.
+use mathlib.Core.List.{List, [], _++_}
+use Prim.Native.Nat.{ℕ, zero, suc}
+use lib.IntN.{ℤ, pos}
+use lib.ListN.{length, drop}
+use Rattle.month_state.specs.declared.Weather.{Weather}
+use Rattle.month_state.specs.declared.Land.{Land}
+use Rattle.list_rows.specs.Rows.{weatherNumbers, landNumbers}
+use Rattle.month_refusals.specs.declared.Check.{Check}
+use Rattle.month_refusals.specs.declared.Check.the-variants.{Pass, Refuse}
+use Rattle.month_refusals.specs.declared.Refusal.{Refusal}
+use Rattle.month_refusals.specs.declared.Refusal.the-variants.{Form}
+use Rattle.month_refusals.specs.Refusals.{weatherCheck}
+use Rattle.book_lines.specs.declared.WeatherLine.{WeatherLine}
+use Rattle.book_lines.specs.declared.LandLine.{LandLine}
+use Rattle.book_lines.specs.Lines.{weatherLine, landLine}
+use Rattle.book_rows.specs.declared.RowsEnd.{RowsEnd}
+use Rattle.book_rows.specs.declared.RowsEnd.the-variants as ends
+use Rattle.book_rows.specs.declared.WeatherRow.{WeatherRow}
+use Rattle.book_rows.specs.declared.WeatherRow.the-variants as weathers
+use Rattle.book_rows.specs.declared.LandRow.{LandRow}
+use Rattle.book_rows.specs.declared.LandRow.the-variants as lands
+
+-- ---- a line as a row
+
+-- The weather and the land of a line's values.
+abbrev pub weatherOf : ℤ → ℕ → ℕ → Weather
+weatherOf temperature rain evaporation =
+    record { temperature = temperature; rain = pos rain; evaporation = pos evaporation }
+
+abbrev pub landOf : ℕ → ℕ → ℕ → Land
+landOf cover plant manure = record { cover = pos cover; plant = pos plant; manure = pos manure }
+
+-- A weather line: another form is 2, then 13 and 14.
+abbrev pub weatherPassed : Check → Weather → ℕ → WeatherRow
+weatherPassed Pass w next = weathers.Row w next
+weatherPassed (Refuse refusal) w next = weathers.Refused refusal
+
+abbrev pub asWeather : WeatherLine → WeatherRow
+asWeather (WeatherLine.Row temperature rain evaporation next) =
+    weatherPassed (weatherCheck (weatherOf temperature rain evaporation))
+    (weatherOf temperature rain evaporation) next
+asWeather WeatherLine.Malformed = weathers.Refused Form
+
+unfoldable pub weatherRow : List ℕ → ℕ → WeatherRow
+weatherRow s place = asWeather (weatherLine s place)
+
+-- A land line: another form is 2. (15 to 17 are asked when its month runs.)
+abbrev pub asLand : LandLine → LandRow
+asLand (LandLine.Row cover plant manure next) = lands.Row (landOf cover plant manure) next
+asLand LandLine.Malformed = lands.Refused Form
+
+unfoldable pub landRow : List ℕ → ℕ → LandRow
+landRow s place = asLand (landLine s place)
+
+-- ---- rows, one after another
+
+-- What a row gives: its numbers and the place of the next line, or a refusal.
+pub data RowGives : Type 0 where
+  numbers : List ℤ → ℕ → RowGives
+  refused : Refusal → RowGives
+
+abbrev pub weatherGives : WeatherRow → RowGives
+weatherGives (weathers.Row w next) = numbers (weatherNumbers w) next
+weatherGives (weathers.Refused refusal) = refused refusal
+
+abbrev pub landGives : LandRow → RowGives
+landGives (lands.Row l next) = numbers (landNumbers l) next
+landGives (lands.Refused refusal) = refused refusal
+
+-- What reading rows gives: the numbers of those before the first that is at fault, and how it ends:
+-- with the place of the next line, or refused on a line.
+pub record RowsRead : Type 0 where
+  pub numbers : List ℤ
+  pub ends : RowsEnd
+
+-- A row on its line, and the later rows.
+abbrev pub rowThen : RowGives → ℕ → (ℕ → RowsRead) → RowsRead
+rowThen (numbers row next) line later =
+    record { numbers = row ++ later next .numbers; ends = later next .ends }
+rowThen (refused refusal) line later = record { numbers = []; ends = ends.Refused refusal line }
+
+-- So many rows of a kind, from the one at a place and on a line.
+unfoldable pub readRows : (List ℕ → ℕ → RowGives) → ℕ → List ℕ → ℕ → ℕ → RowsRead
+readRows row zero s place line = record { numbers = []; ends = ends.Next place }
+readRows row (suc left) s place line =
+    rowThen (row s place) line (λ next. readRows row left s next (suc line))
+
+-- A slice that begins with these numbers; everything after them stays.
+abbrev pub begunWith : List ℤ → List ℤ → List ℤ
+begunWith slice front = front ++ drop (length front) slice
+
+-- "every weather line is checked, used or not".
+unfoldable pub readWeather : ℕ → List ℕ → ℕ → ℕ → RowsRead
+readWeather count s place line =
+    readRows (λ text at. weatherGives (weatherRow text at)) count s place line
+
+unfoldable pub readLand : ℕ → List ℕ → ℕ → ℕ → RowsRead
+readLand count s place line = readRows (λ text at. landGives (landRow text at)) count s place line

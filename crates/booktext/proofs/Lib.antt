@@ -1,8 +1,0 @@
-pub mod Size
-pub mod RoundTrip
-pub mod OnlySo
-pub mod WholeList
-pub mod Balance
-pub mod Injective
-pub mod January
-pub mod Numbers

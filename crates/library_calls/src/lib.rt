@@ -1,0 +1,77 @@
+// The functions of include/rothc.h, for C, Rust and Python: each is its body's, in a crate beside
+// this one, where its wrong programs are tried. An export can only be of its own crate.
+ghost use mathlib.Core.Path.{_≡_};
+ghost use Rattle.library_month.specs.Calls.{rothcSurvival, rothcStart, rothcMonth};
+ghost use Rattle.library_list.specs.Calls.{rothcList, rothcSpinUp};
+ghost use Rattle.library_book.specs.Calls.{rothcBook};
+
+#[no_mangle]
+pub extern "C" fn rothc_survival(n: u64, pool: u64) -> u64
+    ensures { λ r. ⌜ r ≡ rothcSurvival n pool ⌝ }
+{
+    library_month::survival(n, pool)
+}
+
+#[no_mangle]
+pub extern "C" fn rothc_start(soil: &[u64], state: &mut [u64]) -> u64
+    ensures { λ r. ⌜ record { number = r; state = now (state .exit) }
+        ≡ rothcStart (now (soil .entry)) (now (state .entry)) ⌝ }
+{
+    library_month::start(soil, state)
+}
+
+#[no_mangle]
+pub extern "C" fn rothc_month(
+    state: &mut [u64],
+    number: u64,
+    entries: &[i64],
+    row: &mut [u64],
+) -> u64
+    ensures { λ r. ⌜ record { number = r; state = now (state .exit); row = now (row .exit) }
+        ≡ rothcMonth (now (state .entry)) number (now (entries .entry)) (now (row .entry)) ⌝ }
+{
+    library_month::month(state, number, entries, row)
+}
+
+#[no_mangle]
+pub extern "C" fn rothc_list(
+    state: &mut [u64],
+    weather: &[i64],
+    land: &[i64],
+    rows: &mut [u64],
+    place: &mut u64,
+) -> u64
+    ensures { λ r. ⌜ record {
+      number = r;
+      state = now (state .exit);
+      rows = now (rows .exit);
+      place = now (place .exit);
+    }
+        ≡ rothcList (now (state .entry)) (now (weather .entry)) (now (land .entry))
+        (now (rows .entry)) (now (place .entry)) ⌝ }
+{
+    library_list::list(state, weather, land, rows, place)
+}
+
+#[no_mangle]
+pub extern "C" fn rothc_spin_up(
+    state: &mut [u64],
+    weather: &[i64],
+    land: &[i64],
+    years: u64,
+    result: &mut [u64],
+) -> u64
+    ensures { λ r. ⌜ record { number = r; state = now (state .exit); result = now (result .exit) }
+        ≡ rothcSpinUp (now (state .entry)) (now (weather .entry)) (now (land .entry)) years
+        (now (result .entry)) ⌝ }
+{
+    library_list::spin_up(state, weather, land, years, result)
+}
+
+#[no_mangle]
+pub extern "C" fn rothc_book(book: &[u8], out: &mut [u8], length: &mut u64) -> u64
+    ensures { λ r. ⌜ record { number = r; out = now (out .exit); size = now (length .exit) }
+        ≡ rothcBook (now (book .entry)) (now (out .entry)) ⌝ }
+{
+    library_book::book(book, out, length)
+}

@@ -1,0 +1,83 @@
+-- Laws of the library's lists and spin-ups that their functions rest on: what a wrong length leaves, and what a call leaves; and that a
+-- refusal outside the months leaves a state's numbers as they were.
+-- Assumes nothing.
+use mathlib.Core.Path.{_≡_, refl}
+use mathlib.Core.List.{List}
+use Prim.Native.Nat.{ℕ}
+use lib.IntN.{ℤ}
+use lib.ListN.{length}
+use Rattle.month_state.specs.declared.State.{State}
+use Rattle.month_layouts.specs.Layouts.{stateWidth, stateOf, stateNumbers}
+use Rattle.month_layouts.proofs.Layouts.{numbers-of-state}
+use Rattle.month_refusals.specs.declared.NumberAndPlace.{NumberAndPlace}
+use Rattle.month_refusals.specs.declared.Refusal.{Refusal}
+use Rattle.list_run.specs.declared.ListOutcome.{ListOutcome}
+use Rattle.list_run.specs.declared.ListAnswer.the-variants as lists
+use Rattle.list_run.specs.Run.{run, listTold}
+use Rattle.list_run.proofs.Months.{outside-months}
+use Rattle.spin_up.specs.declared.SpinOutcome.{SpinOutcome}
+use Rattle.spin_up.specs.declared.SpinAnswer.the-variants as spins
+use Rattle.spin_up.specs.SpinUp.{spinUp, spinTold}
+use Rattle.spin_up.proofs.Reached.{refused-keeps}
+use Rattle.library_month.specs.Calls.{shape}
+use Rattle.library_month.proofs.Laws.{right, wrong}
+use Rattle.library_list.specs.Calls.{rothcList, resultWidth, spinResult, rothcSpinUp}
+
+-- ---- rothc_list
+
+module _ (state : List ℕ) (weather land : List ℤ) (rows : List ℕ) (place : ℕ) where
+  pub list-state : (length state ≡ stateWidth → ⊥)
+      → record { number = shape; state = state; rows = rows; place = place } ≡ rothcList state weather land rows place
+  unfolding rothcList
+  list-state h = rw (wrong state stateWidth h)
+
+  pub list-runs :
+      {s : State} {outcome : ListOutcome} {left output : List ℕ} {told : NumberAndPlace} → length state ≡ stateWidth → s ≡ stateOf state
+      → record { outcome = outcome; output = output } ≡ run s weather land rows → left ≡ stateNumbers (outcome .state)
+      → told ≡ listTold (outcome .answer)
+      → record { number = told .number; state = left; rows = output; place = told .place } ≡ rothcList state weather land rows place
+  unfolding rothcList
+  list-runs eleven is ran moved telling = rw (right state stateWidth eleven, ← is, ← ran, moved, telling)
+
+-- ---- rothc_spin_up
+
+module _ (state : List ℕ) (weather land : List ℤ) (years : ℕ) (result : List ℕ) where
+  pub spin-state : (length state ≡ stateWidth → ⊥)
+      → record { number = shape; state = state; result = result } ≡ rothcSpinUp state weather land years result
+  unfolding rothcSpinUp
+  spin-state h = rw (wrong state stateWidth h)
+
+  pub spin-result : length state ≡ stateWidth → (length result ≡ resultWidth → ⊥)
+      → record { number = shape; state = state; result = result } ≡ rothcSpinUp state weather land years result
+  unfolding rothcSpinUp
+  spin-result h h' = rw (right state stateWidth h, wrong result resultWidth h')
+
+  pub spin-runs :
+      {s : State} {outcome : SpinOutcome} {left written : List ℕ} {told : NumberAndPlace} → length state ≡ stateWidth → length result ≡ resultWidth → s ≡ stateOf state
+      → outcome ≡ spinUp s weather land years → left ≡ stateNumbers (outcome .state) → written ≡ spinResult (outcome .answer)
+      → told ≡ spinTold (outcome .answer)
+      → record { number = told .number; state = left; result = written } ≡ rothcSpinUp state weather land years result
+  unfolding rothcSpinUp
+  spin-runs eleven two is spun moved wrote telling =
+      rw (right state stateWidth eleven, right result resultWidth two, ← is, moved, wrote, telling, spun)
+
+-- ---- what a refusal leaves
+
+-- A list that is refused before its months, and a refused spin-up, leave the numbers of the state as they were, the list its rows too.
+module _ (state : List ℕ) (eleven : length state ≡ stateWidth) (weather land : List ℤ) where
+  pub list-kept :
+      (rows : List ℕ) (place : ℕ) (refusal : Refusal)
+      → run (stateOf state) weather land rows .outcome .answer ≡ lists.Refused refusal 0
+      → (rothcList state weather land rows place .state ≡ state) × (rothcList state weather land rows place .rows ≡ rows)
+  unfolding rothcList
+  list-kept rows place refusal h =
+      rw (right state stateWidth eleven, outside-months (stateOf state) weather land rows refusal h) (numbers-of-state state eleven, refl)
+
+  pub spin-kept :
+      (years : ℕ) (result : List ℕ) → length result ≡ resultWidth → (refusal : Refusal) (place : ℕ)
+      → spinUp (stateOf state) weather land years .answer ≡ spins.Refused refusal place
+      → rothcSpinUp state weather land years result .state ≡ state
+  unfolding rothcSpinUp
+  spin-kept years result two refusal place h =
+      rw (right state stateWidth eleven, right result resultWidth two, refused-keeps (stateOf state) weather land years refusal place h)
+      (numbers-of-state state eleven)

@@ -1,0 +1,119 @@
+-- Laws of the library's month calls that their functions rest on: what a wrong length leaves, and what a call leaves by its answer.
+-- Assumes nothing.
+use mathlib.Core.Path.{_≡_, _∙_}
+use mathlib.Core.Bool.{true, false}
+use mathlib.Core.List.{List}
+use Prim.Native.Nat.{ℕ, _≤_, _<_}
+use borrow.Author.Tests.{le-leb, lt-leb, eq-eqb, ne-eqb}
+use lib.IntN.{ℤ}
+use lib.ListN.{length, getD}
+use Rattle.step_decay.specs.Rates.{survivals}
+use Rattle.month_state.specs.declared.Soil.{Soil}
+use Rattle.month_state.specs.declared.State.{State}
+use Rattle.month_state.specs.declared.Entries.{Entries}
+use Rattle.month_state.specs.declared.Row.{Row}
+use Rattle.month_state.specs.State.{newState}
+use Rattle.month_layouts.specs.Layouts.{soilWidth, stateWidth, soilOf, stateOf, stateNumbers}
+use Rattle.list_rows.specs.Rows.{entriesWidth, rowWidth, entriesOf}
+use Rattle.list_rows.specs.Rows.{rowNumbers, rowWritten}
+use Rattle.list_rows.proofs.Layouts.{row-stored}
+use Rattle.month_refusals.specs.declared.Check.{Check}
+use Rattle.month_refusals.specs.declared.Check.the-variants.{Pass, Refuse}
+use Rattle.month_refusals.specs.declared.Refusal.{Refusal}
+use Rattle.month_refusals.specs.Asked.{refusalNumber}
+use Rattle.month_refusals.specs.Refusals.{soilCheck}
+use Rattle.month_call.specs.declared.Answer.the-variants.{Done, Refused}
+use Rattle.month_call.specs.declared.Outcome.{Outcome}
+use Rattle.month_call.specs.Month.{monthCall}
+use Rattle.library_month.specs.Calls.{shape, has, noSurvival, rothcSurvival, rothcStart, rothcMonth}
+
+-- A list has so many numbers, or it has not.
+pub right : {A : Type 0} (numbers : List A) (n : ℕ) → length numbers ≡ n → has numbers n ≡ true
+right numbers n h = eq-eqb (length numbers) n h
+
+pub wrong : {A : Type 0} (numbers : List A) (n : ℕ) → (length numbers ≡ n → ⊥) → has numbers n ≡ false
+wrong numbers n h = ne-eqb (length numbers) n h
+
+-- ---- rothc_survival
+
+pub no-pool : (n pool : ℕ) → 3 < pool → noSurvival ≡ rothcSurvival n pool
+unfolding rothcSurvival
+no-pool n pool h = rw (lt-leb pool 3 h)
+
+pub no-rate : (n pool : ℕ) → pool ≤ 3 → 8363900000 < n → noSurvival ≡ rothcSurvival n pool
+unfolding rothcSurvival
+no-rate n pool h above = rw (le-leb pool 3 h, lt-leb n 8363900000 above)
+
+pub survives : (n pool : ℕ) → pool ≤ 3 → n ≤ 8363900000 → getD (survivals n) pool 0 ≡ rothcSurvival n pool
+unfolding rothcSurvival
+survives n pool h most = rw (le-leb pool 3 h, le-leb n 8363900000 most)
+
+-- ---- rothc_start
+
+module _ (soil state : List ℕ) where
+  pub start-soil : (length soil ≡ soilWidth → ⊥) → record { number = shape; state = state } ≡ rothcStart soil state
+  unfolding rothcStart
+  start-soil h = rw (wrong soil soilWidth h)
+
+  pub start-state : length soil ≡ soilWidth → (length state ≡ stateWidth → ⊥) → record { number = shape; state = state } ≡ rothcStart soil state
+  unfolding rothcStart
+  start-state h h' = rw (right soil soilWidth h, wrong state stateWidth h')
+
+  module _ (eight : length soil ≡ soilWidth) (eleven : length state ≡ stateWidth) where
+    pub start-new :
+        {s : Soil} {check : Check} {next : State} {left : List ℕ} → s ≡ soilOf soil → check ≡ soilCheck s → check ≡ Pass
+        → next ≡ newState s → left ≡ stateNumbers next → record { number = 0; state = left } ≡ rothcStart soil state
+    unfolding rothcStart
+    start-new {s} is checked passes new written =
+        let accepted : soilCheck (soilOf soil) ≡ Pass = cc in
+        rw (right soil soilWidth eight, right state stateWidth eleven, accepted, written, new, is)
+
+    pub start-refused :
+        {s : Soil} {check : Check} {refusal : Refusal} {n : ℕ} → s ≡ soilOf soil → check ≡ soilCheck s → check ≡ Refuse refusal
+        → n ≡ refusalNumber refusal → record { number = n; state = state } ≡ rothcStart soil state
+    unfolding rothcStart
+    start-refused {refusal = refusal} is checked refuses number =
+        let refused : soilCheck (soilOf soil) ≡ Refuse refusal = cc in
+        rw (right soil soilWidth eight, right state stateWidth eleven, refused, number)
+
+-- ---- rothc_month
+
+module _ (state : List ℕ) (number : ℕ) (entries : List ℤ) (row : List ℕ) where
+  pub month-state : (length state ≡ stateWidth → ⊥)
+      → record { number = shape; state = state; row = row } ≡ rothcMonth state number entries row
+  unfolding rothcMonth
+  month-state h = rw (wrong state stateWidth h)
+
+  pub month-entries : length state ≡ stateWidth → (length entries ≡ entriesWidth → ⊥)
+      → record { number = shape; state = state; row = row } ≡ rothcMonth state number entries row
+  unfolding rothcMonth
+  month-entries h h' = rw (right state stateWidth h, wrong entries entriesWidth h')
+
+  pub month-row : length state ≡ stateWidth → length entries ≡ entriesWidth → (length row ≡ rowWidth → ⊥)
+      → record { number = shape; state = state; row = row } ≡ rothcMonth state number entries row
+  unfolding rothcMonth
+  month-row h h' h'' = rw (right state stateWidth h, right entries entriesWidth h', wrong row rowWidth h'')
+
+  module _ (eleven : length state ≡ stateWidth) (six : length entries ≡ entriesWidth) (seven : length row ≡ rowWidth) where
+    module _
+        {s : State}
+        {e : Entries}
+        {outcome : Outcome}
+        (state-is : s ≡ stateOf state)
+        (entries-are : e ≡ entriesOf entries)
+        (called : outcome ≡ monthCall s number e)
+      where
+        pub month-done :
+            {done : Row} {left written : List ℕ} → outcome .answer ≡ Done done → left ≡ stateNumbers (outcome .state)
+            → written ≡ rowWritten row 0 done → record { number = 0; state = left; row = written } ≡ rothcMonth state number entries row
+        unfolding rothcMonth
+        month-done {done} answered moved wrote =
+            let all : _ ≡ rowNumbers done = wrote ∙ row-stored row done seven in
+            rw (right state stateWidth eleven, right entries entriesWidth six, right row rowWidth seven, ← state-is, ← entries-are, ← called, answered, moved, all)
+
+        pub month-refused :
+            {refusal : Refusal} {n : ℕ} → outcome .answer ≡ Refused refusal → n ≡ refusalNumber refusal
+            → record { number = n; state = state; row = row } ≡ rothcMonth state number entries row
+        unfolding rothcMonth
+        month-refused answered is =
+            rw (right state stateWidth eleven, right entries entriesWidth six, right row rowWidth seven, ← state-is, ← entries-are, ← called, answered, is)

@@ -1,0 +1,85 @@
+-- What rothc_survival, rothc_start and rothc_month return and leave in lent memory. Memory that a
+-- call is lent to read stays as it was.
+use mathlib.Core.Bool.{Bool, cond, _&&_}
+use mathlib.Core.List.{List}
+use Prim.Native.Nat.{ℕ}
+use lib.Dec.{leb, eqb}
+use lib.IntN.{ℤ}
+use lib.ListN.{length, getD}
+use Rattle.step_decay.specs.Rates.{survivals}
+use Rattle.month_state.specs.declared.Soil.{Soil}
+use Rattle.month_state.specs.declared.State.{State}
+use Rattle.month_state.specs.State.{newState}
+use Rattle.month_layouts.specs.Layouts.{soilWidth, stateWidth, soilOf, stateOf}
+use Rattle.list_rows.specs.Rows.{entriesWidth, rowWidth, entriesOf}
+use Rattle.month_layouts.specs.Layouts.{stateNumbers}
+use Rattle.list_rows.specs.Rows.{rowNumbers}
+use Rattle.month_refusals.specs.declared.Check.{Check}
+use Rattle.month_refusals.specs.declared.Check.the-variants.{Pass, Refuse}
+use Rattle.month_refusals.specs.Asked.{refusalNumber}
+use Rattle.month_refusals.specs.Refusals.{soilCheck}
+use Rattle.month_call.specs.declared.Answer.{Answer}
+use Rattle.month_call.specs.declared.Answer.the-variants.{Done, Refused}
+use Rattle.month_call.specs.declared.Outcome.{Outcome}
+use Rattle.month_call.specs.Month.{monthCall}
+
+-- The number for lent memory of a fixed layout that has another length. It is none of document
+-- 01's. Nothing is written then.
+abbrev pub shape : ℕ
+shape = 100
+
+-- A list has so many numbers.
+abbrev pub has : {A : Type 0} → List A → ℕ → Bool
+has numbers n = eqb (length numbers) n
+
+-- ---- rothc_survival
+
+-- Returned where there is no survival number to give.
+abbrev pub noSurvival : ℕ
+noSurvival = 18446744073709551615
+
+-- Step 4's S of a pool (0 DPM, 1 RPM, 2 BIO, 3 HUM) at the rate number n. A month's rate number is
+-- at most 8,363,900,000.
+unfoldable pub rothcSurvival : ℕ → ℕ → ℕ
+rothcSurvival n pool = cond (leb pool 3 && leb n 8363900000) (getD (survivals n) pool 0) noSurvival
+
+-- ---- rothc_start
+
+pub record StartLeft : Type 0 where
+  pub number : ℕ
+  pub state : List ℕ
+
+-- 4 to 7: the new state, or the refusal's number and the memory as it was.
+abbrev pub afterCheck : Check → Soil → List ℕ → StartLeft
+afterCheck Pass soil state = record { number = 0; state = stateNumbers (newState soil) }
+afterCheck (Refuse refusal) soil state = record { number = refusalNumber refusal; state = state }
+
+unfoldable pub rothcStart : List ℕ → List ℕ → StartLeft
+rothcStart soil state =
+    cond (has soil soilWidth && has state stateWidth)
+    (afterCheck (soilCheck (soilOf soil)) (soilOf soil) state)
+    (record { number = shape; state = state })
+
+-- ---- rothc_month
+
+pub record MonthLeft : Type 0 where
+  pub number : ℕ
+  pub state : List ℕ
+  pub row : List ℕ
+
+-- An accepted month moves the state on and writes its row. A refused one gives the refusal's number
+-- and leaves both as they were.
+abbrev pub afterMonth : Answer → State → List ℕ → List ℕ → MonthLeft
+afterMonth (Done done) next state row =
+    record { number = 0; state = stateNumbers next; row = rowNumbers done }
+afterMonth (Refused refusal) next state row =
+    record { number = refusalNumber refusal; state = state; row = row }
+
+abbrev pub ofMonth : Outcome → List ℕ → List ℕ → MonthLeft
+ofMonth outcome state row = afterMonth (outcome .answer) (outcome .state) state row
+
+unfoldable pub rothcMonth : List ℕ → ℕ → List ℤ → List ℕ → MonthLeft
+rothcMonth state number entries row =
+    cond (has state stateWidth && (has entries entriesWidth && has row rowWidth))
+    (ofMonth (monthCall (stateOf state) number (entriesOf entries)) state row)
+    (record { number = shape; state = state; row = row })

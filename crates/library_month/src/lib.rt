@@ -1,0 +1,88 @@
+// The bodies of rothc_survival, rothc_start and rothc_month: numbers and slices of numbers in lent
+// memory. Each call returns document 01's refusal number, 0 where nothing is refused, and 100 where
+// memory of a fixed layout has another length.
+ghost use mathlib.Core.Path.{_≡_};
+ghost use Rattle.library_month.specs.Calls.{rothcSurvival, rothcStart, rothcMonth};
+use list_rows::ENTRIES_WIDTH;
+use list_rows::ROW_WIDTH;
+use list_rows::entries_of;
+use list_rows::put_row;
+use month_call::Answer;
+use month_demand3::call;
+use month_layouts::SOIL_WIDTH;
+use month_layouts::STATE_WIDTH;
+use month_layouts::put_state;
+use month_layouts::soil_of;
+use month_layouts::state_of;
+use month_refusals::Check;
+use month_refusals::check_soil;
+use month_refusals::refusal_number;
+use month_state::State;
+
+// What is returned for a length that no layout has. It is none of document 01's numbers.
+pub const SHAPE: u64 = 100;
+
+// Step 4's survival number of a pool (0 DPM, 1 RPM, 2 BIO, 3 HUM) at a rate number, or the largest
+// number where the pool is none of these or the rate number is no month's.
+pub fn survival(n: u64, pool: u64) -> u64
+    ensures { λ r. ⌜ r ≡ rothcSurvival n pool ⌝ }
+{
+    if 3 < pool {
+        return 18_446_744_073_709_551_615;
+    }
+    if 8_363_900_000 < n {
+        return 18_446_744_073_709_551_615;
+    }
+    let four = step_decay::survivals(n);
+    let i = pool as usize;
+    four[i]
+}
+
+// The new state of a soil that none of 4 to 7 refuses.
+pub fn start(soil: &[u64], state: &mut [u64]) -> u64
+    ensures { λ r. ⌜ record { number = r; state = now (state .exit) }
+        ≡ rothcStart (now (soil .entry)) (now (state .entry)) ⌝ }
+{
+    if soil.len() != SOIL_WIDTH {
+        return SHAPE;
+    }
+    if state.len() != STATE_WIDTH {
+        return SHAPE;
+    }
+    let given = soil_of(soil);
+    match check_soil(given) {
+        Check::Pass => {
+            put_state(state, State::new(given));
+            0
+        }
+        Check::Refuse(refusal) => refusal_number(refusal),
+    }
+}
+
+// The single month call, the one that has demand 3 in its promise.
+pub fn month(state: &mut [u64], number: u64, entries: &[i64], row: &mut [u64]) -> u64
+    ensures { λ r. ⌜ record { number = r; state = now (state .exit); row = now (row .exit) }
+        ≡ rothcMonth (now (state .entry)) number (now (entries .entry)) (now (row .entry)) ⌝ }
+{
+    if state.len() != STATE_WIDTH {
+        return SHAPE;
+    }
+    if entries.len() != ENTRIES_WIDTH {
+        return SHAPE;
+    }
+    if row.len() != ROW_WIDTH {
+        return SHAPE;
+    }
+    let given = state_of(state);
+    let outcome = call(given, number, entries_of(entries));
+    let answer = outcome.answer;
+    let next = outcome.state;
+    match answer {
+        Answer::Done(done) => {
+            put_state(state, next);
+            put_row(row, 0, done);
+            0
+        }
+        Answer::Refused(refusal) => refusal_number(refusal),
+    }
+}

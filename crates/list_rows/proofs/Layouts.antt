@@ -1,0 +1,85 @@
+-- Laws of rows in lent memory: how many numbers they have, that what was put is read back, and that everything else stays.
+-- Assumes nothing.
+use mathlib.Core.Path.{_≡_, refl}
+use mathlib.Core.List.{List, _∷_, _++_}
+use Prim.Native.Nat.{ℕ, _+_, _*_, _≤_, _<_}
+use native.Mathlib.Omega.{arith}
+use lib.IntN.{ℤ, pos}
+use lib.ListN.{length, getD}
+use lib.Seq.{getD-append-seam, getD-append-add, length-sets}
+use Rattle.month_state.specs.declared.Weather.{Weather}
+use Rattle.month_state.specs.declared.Land.{Land}
+use Rattle.month_state.specs.declared.Row.{Row}
+use Rattle.month_layouts.proofs.Layouts.{put-there, put-elsewhere, stored}
+use Rattle.list_rows.specs.Rows.{weatherWidth, landWidth, rowWidth, weatherFrom, landFrom}
+use Rattle.list_rows.specs.Rows.{weatherNumbers, landNumbers, rowNumbers, rowWritten}
+
+-- ---- weather rows
+
+-- How many numbers a weather row has.
+pub weather-of-length : (w : Weather) → length (weatherNumbers w) ≡ weatherWidth
+unfolding weatherNumbers
+weather-of-length w = refl
+
+-- A weather row is read back from its numbers.
+pub weather-back : (before rest : List ℤ) (w : Weather) → weatherFrom (before ++ (weatherNumbers w ++ rest)) (length before) ≡ w
+unfolding weatherFrom weatherNumbers
+weather-back before rest w =
+    let all = weatherNumbers w ++ rest in
+    λ i. record {
+      temperature = getD-append-seam before (w .temperature) (w .rain ∷ w .evaporation ∷ rest) (pos 0) i;
+      rain = getD-append-add before all 1 (pos 0) i;
+      evaporation = getD-append-add before all 2 (pos 0) i;
+    }
+
+-- ---- land rows
+
+-- How many numbers a land row has.
+pub land-of-length : (l : Land) → length (landNumbers l) ≡ landWidth
+unfolding landNumbers
+land-of-length l = refl
+
+-- A land row is read back from its numbers.
+pub land-back : (before rest : List ℤ) (l : Land) → landFrom (before ++ (landNumbers l ++ rest)) (length before) ≡ l
+unfolding landFrom landNumbers
+land-back before rest l =
+    let all = landNumbers l ++ rest in
+    λ i. record {
+      cover = getD-append-seam before (l .cover) (l .plant ∷ l .manure ∷ rest) (pos 0) i;
+      plant = getD-append-add before all 1 (pos 0) i;
+      manure = getD-append-add before all 2 (pos 0) i;
+    }
+
+-- ---- months' rows
+
+-- How many numbers a month's row has.
+pub row-of-length : (row : Row) → length (rowNumbers row) ≡ rowWidth
+unfolding rowNumbers
+row-of-length row = refl
+
+module _ (out : List ℕ) (j : ℕ) (row : Row) where
+  -- Written, it leaves the output's length.
+  pub row-length : length (rowWritten out j row) ≡ length out
+  unfolding rowWritten
+  row-length = length-sets out (rowWidth * j) (rowNumbers row)
+
+  -- A row's numbers are at its place, ..
+  pub row-at :
+      rowWidth * j + rowWidth ≤ length out → (c : ℕ) → c < rowWidth
+      → getD (rowWritten out j row) (rowWidth * j + c) 0 ≡ getD (rowNumbers row) c 0
+  unfolding rowWritten
+  row-at room c h =
+      put-there out (rowWidth * j) (rowNumbers row) c 0 (omega (arith, row-of-length row)) (omega (arith, row-of-length row))
+
+  -- .. and everything else stays.
+  pub row-off :
+      (i : ℕ) → ((c : ℕ) → c < rowWidth → i ≡ rowWidth * j + c → ⊥)
+      → getD (rowWritten out j row) i 0 ≡ getD out i 0
+  unfolding rowWritten
+  row-off i off =
+      put-elsewhere out (rowWidth * j) (rowNumbers row) i 0 (λ c h e. off c (omega (arith, row-of-length row)) e)
+
+-- In memory of a row's length it is all that there is.
+pub row-stored : (out : List ℕ) (row : Row) → length out ≡ rowWidth → rowWritten out 0 row ≡ rowNumbers row
+unfolding rowWritten
+row-stored out row h = stored out (rowNumbers row) (omega (arith, row-of-length row))

@@ -1,0 +1,5 @@
+pub mod Laws
+pub mod Months
+pub mod Refusals
+pub mod ListCalls
+pub mod Rows

@@ -1,2 +1,0 @@
-pub mod ListCalls
-pub mod Rows

@@ -1,0 +1,84 @@
+-- `month_call::deficit_after` meets its contract: a sound state and ready entries are in the ranges that the callees ask.
+-- Assumes nothing.
+use mathlib.Core.Path.{_≡_, _∙_}
+use native.Mathlib.Omega.{arith}
+use lib.IntN.{natAbs}
+use Rattle.month_call.specs.Month.{deficitAfter, nextDeficit}
+use Rattle.month_refusals.proofs.Accepted.{Sound, WeatherReady, sound-state, ready, entries-parts, natural-most}
+use Rattle.month_refusals.specs.declared.Check.the-variants.{Pass}
+use Rattle.month_refusals.specs.Refusals.{landCheck}
+use Rattle.month_state.proofs.Signed.{read, natural-read}
+use Rattle.month_call.proofs.Steps.{deficit-range}
+use Rattle.month_call.proofs.deficit_after.Statement.{statement}
+use Rattle.month_call.proofs.deficit_after.Tie as tie
+
+sound : (c : tie.Start) → Sound (c .args .s)
+sound c = sound-state (c .args .s) (c .pre .state)
+
+weather : (c : tie.Start) → WeatherReady (c .args .e .weather)
+weather c = ready (c .args .s) (c .args .e) (c .pre .entries) .weather
+
+land-passes : (c : tie.Start) → landCheck (c .args .e .land) ≡ Pass
+land-passes c = entries-parts (c .args .s) (c .args .e) (c .pre .entries) .land
+
+-- the function's entry, from the first signed entry on
+abbrev start : tie.After-max-deficit → tie.Start
+start c = c .before .before .before .before .before .before
+
+under-crop-requires : tie.Need-under-crop-requires
+under-crop-requires c κs = land-passes (c .before .before .before .before)
+
+max-deficit-requires : tie.Need-max-deficit-requires
+max-deficit-requires c κs =
+    let soil = sound (c .before .before .before .before .before) .soil in
+    (soil .clay, soil .deepest)
+
+natural-requires : tie.Need-natural-requires
+natural-requires c κs =
+    let s = start (c .before) in
+    rw (read (s .args .e .weather .evaporation) (c .struct-told .given .1 .1 .0 .1)) (weather s .evaporation .from)
+
+evaporation-is : (c : tie.After-natural) → c .natural .result ≡ natAbs (start (c .before .before) .args .e .weather .evaporation)
+evaporation-is c =
+    natural-read (start (c .before .before) .args .e .weather .evaporation) (c .before .struct-told .given .1 .1 .0 .1)
+    (c .natural .ensures)
+
+natural-requires-2 : tie.Need-natural-requires-2
+natural-requires-2 c κs =
+    let s = start (c .before .before .before) in
+    rw (read (s .args .e .weather .rain) (c .struct-told2 .given .1 .0 .1)) (weather s .rain .from)
+
+rain-is : (c : tie.After-natural2) → c .natural2 .result ≡ natAbs (start (c .before .before .before .before) .args .e .weather .rain)
+rain-is c =
+    natural-read (start (c .before .before .before .before) .args .e .weather .rain) (c .before .struct-told2 .given .1 .0 .1)
+    (c .natural2 .ensures)
+
+new-deficit-requires : tie.Need-new-deficit-requires
+new-deficit-requires c κs =
+    let s = start (c .before .before .before .before) in
+    let m = deficit-range (s .args .s .soil) (sound s .soil) in
+    let evaporation = natural-most 20000 (s .args .e .weather .evaporation) (weather s .evaporation) in
+    let rain = natural-most 20000 (s .args .e .weather .rain) (weather s .rain) in (
+      omega (arith, m),
+      omega (arith, m, sound s .deficit),
+      omega (arith, evaporation, evaporation-is (c .before .before)),
+      omega (arith, rain, rain-is c),
+    )
+
+returns : tie.Need-returns
+unfolding nextDeficit deficitAfter
+returns c =
+    let b = c .before .before .before .before .before in
+    c .new-deficit .ensures
+    ∙ rw (b .before .under-crop .ensures, b .max-deficit .ensures, evaporation-is (c .before .before .before), rain-is (c .before))
+
+pub deficit-after-spec : {M : Type 1} → statement M
+deficit-after-spec =
+    tie.close
+    (tie.spec
+    under-crop-requires
+    max-deficit-requires
+    natural-requires
+    natural-requires-2
+    new-deficit-requires
+    returns)

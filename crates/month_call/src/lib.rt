@@ -1,0 +1,192 @@
+// The single month call of document 01: a state and a month's entries by value, the next state or a
+// refusal.
+ghost use mathlib.Core.Path.{_≡_};
+ghost use Prim.Native.Nat.{_≤_};
+ghost use lib.IntN.{natAbs};
+ghost use Rattle.step_factors.specs.Factors.{clayNumber};
+ghost use Rattle.step_decay.specs.Rates.{survivals};
+ghost use Rattle.step_pools.specs.Pools.{total};
+ghost use Rattle.step_decay.specs.Decay.{decayed};
+ghost use Rattle.step_additions.specs.Additions.{added};
+ghost use Rattle.month_state.specs.State.{carbonCeiling};
+ghost use Rattle.month_refusals.specs.declared.Check.the-variants.{Pass};
+ghost use Rattle.month_refusals.specs.Asked.{at, told};
+ghost use Rattle.month_refusals.specs.Refusals.{monthAsked, stateCheck, landCheck};
+ghost use Rattle.month_call.specs.Month.{crop, largestDeficit, nextDeficit, rateAfter, gasOf};
+ghost use Rattle.month_call.specs.Month.{Accepted, outcomeOf};
+ghost use Rattle.month_call.specs.Month.{monthCall, listMonth, answerTold};
+use month_checks::check_entries;
+use month_checks::check_month;
+use month_refusals::Check;
+use month_refusals::Refusal;
+use month_state::Entries;
+use month_state::Land;
+use month_state::Row;
+use month_state::Soil;
+use month_state::State;
+use month_state::natural;
+use number_units::Grams;
+use number_units::Parts;
+use step_additions::additions;
+use step_decay::Decayed;
+use step_decay::decay;
+use step_decay::survivals;
+use step_factors::clay_number;
+use step_factors::temperature_factor;
+use step_survival::rate_number;
+use step_water::max_deficit;
+use step_water::moisture_factor;
+use step_water::new_deficit;
+
+// A month's answer: its row, or why it is refused.
+pub enum Answer {
+    Done(Row),
+    Refused(Refusal),
+}
+
+// The answer, with the state beside it: the next state, or after a refusal the one that was given.
+pub struct Outcome {
+    pub answer: Answer,
+    pub state: State,
+}
+
+// Whether a crop covers the soil.
+fn under_crop(l: Land) -> bool
+    requires { ⌜ landCheck l ≡ Pass ⌝ }
+    ensures { λ r. ⌜ r ≡ crop l ⌝ }
+{
+    let cover = natural(l.cover);
+    cover == 1
+}
+
+// Step 3: the new deficit.
+fn deficit_after(s: State, e: Entries) -> Parts
+    requires { ⌜ Accepted s e ⌝ }
+    ensures { λ r. ⌜ r .0 ≡ nextDeficit s e ⌝ }
+{
+    let soil = s.soil;
+    let deficit = s.deficit;
+    let weather = e.weather;
+    let land = e.land;
+    let crop = under_crop(land);
+    let largest = max_deficit(soil.clay, soil.depth);
+    let evaporation = natural(weather.evaporation);
+    let rain = natural(weather.rain);
+    new_deficit(crop, largest, deficit, evaporation, rain)
+}
+
+// Steps 1, 3 and 4: the rate number, d being the new deficit.
+fn rate_after(s: State, d: Parts, e: Entries) -> u64
+    requires { ⌜ Accepted s e × (d .0 ≤ largestDeficit (s .soil)) ⌝ }
+    ensures { λ r. ⌜ r ≡ rateAfter (s .soil) (d .0) e ⌝ }
+{
+    let soil = s.soil;
+    let weather = e.weather;
+    let land = e.land;
+    let crop = under_crop(land);
+    let largest = max_deficit(soil.clay, soil.depth);
+    let a = temperature_factor(weather.temperature);
+    let b = moisture_factor(largest, d);
+    rate_number(crop, a, b)
+}
+
+// Steps 4 and 5: the pools after decay at the rate number n, and the month's CO2.
+fn after_decay(s: State, n: u64) -> Decayed
+    requires { ⌜ (stateCheck s ≡ Pass) × (n ≤ 8363900000) ⌝ }
+    ensures pools { λ r. ⌜ r .pools
+        ≡ decayed (s .soil .pools) (survivals n) (clayNumber (s .soil .clay)) ⌝ }
+    ensures co2 { λ r. ⌜ r .co2 .0 ≡ gasOf (s .soil) n ⌝ }
+{
+    let soil = s.soil;
+    let pools = soil.pools;
+    let survival = survivals(n);
+    let r = clay_number(soil.clay);
+    decay(pools, survival, r)
+}
+
+// Step 6: the pools after decay with the month's additions.
+fn after_additions(s: State, pools: [Grams; 4], l: Land) -> [Grams; 4]
+    requires { ⌜ (stateCheck s ≡ Pass) × (landCheck l ≡ Pass) × (total pools ≤ carbonCeiling) ⌝ }
+    ensures { λ r. ⌜ r ≡ added pools (s .soil .kind) (natAbs (l .plant)) (natAbs (l .manure)) ⌝ }
+{
+    let soil = s.soil;
+    let plant = natural(l.plant);
+    let manure = natural(l.manure);
+    additions(pools, soil.kind, Grams(plant), Grams(manure))
+}
+
+// An accepted month: its row, and the state moved on.
+fn step(s: State, e: Entries) -> Outcome
+    requires { ⌜ Accepted s e ⌝ }
+    ensures { λ r. ⌜ r ≡ outcomeOf Pass s e ⌝ }
+{
+    let soil = s.soil;
+    let land = e.land;
+    let iom = soil.iom;
+    let to_date = s.co2;
+    let deficit = deficit_after(s, e);
+    let n = rate_after(s, deficit, e);
+    let left = after_decay(s, n);
+    let co2 = left.co2;
+    let left_pools = left.pools;
+    let pools = after_additions(s, left_pools, land);
+    let row = Row {
+        dpm: pools[0],
+        rpm: pools[1],
+        bio: pools[2],
+        hum: pools[3],
+        iom,
+        co2,
+        deficit,
+    };
+    let soil_after = Soil {
+        clay: soil.clay,
+        depth: soil.depth,
+        kind: soil.kind,
+        pools,
+        iom,
+    };
+    let state = State {
+        soil: soil_after,
+        deficit,
+        months: s.months + 1,
+        co2: Grams(to_date.0 + co2.0),
+    };
+    Outcome {
+        answer: Answer::Done(row),
+        state,
+    }
+}
+
+// A month after its check: an accepted one is run, a refused one gives the refusal and the state
+// that was given.
+fn after_check(check: Check, s: State, e: Entries) -> Outcome
+    requires { ⌜ (check ≡ Pass → Accepted s e) ⌝ }
+    ensures { λ r. ⌜ r ≡ outcomeOf check s e ⌝ }
+{
+    match check {
+        Check::Pass => step(s, e),
+        Check::Refuse(refusal) => Outcome {
+            answer: Answer::Refused(refusal),
+            state: s,
+        },
+    }
+}
+
+// The single month call. The answer's number and place are document 01's.
+pub fn month(s: State, number: u64, e: Entries) -> Outcome
+    ensures outcome { λ r. ⌜ r ≡ monthCall s number e ⌝ }
+    ensures told { λ r. ⌜ answerTold (r .answer) ≡ told (at 0 (monthAsked s number e)) ⌝ }
+{
+    let check = check_month(s, number, e);
+    after_check(check, s, e)
+}
+
+// A list's month, of a state that passes 4 to 7 and 10.
+pub fn list_month(s: State, e: Entries) -> Outcome
+    requires { ⌜ stateCheck s ≡ Pass ⌝ }
+    ensures { λ r. ⌜ r ≡ listMonth s e ⌝ }
+{
+    let check = check_entries(s, e);
+    after_check(check, s, e)
+}

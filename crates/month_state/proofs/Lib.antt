@@ -1,0 +1,3 @@
+pub mod Counting
+pub mod Signed
+pub mod Tests

@@ -1,0 +1,2 @@
+pub mod SpinUp
+pub mod Reached

@@ -1,4 +1,0 @@
-pub mod NewState
-pub mod Refusal
-pub mod Accepted
-pub mod FivePools

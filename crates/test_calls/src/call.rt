@@ -1,0 +1,140 @@
+// The calls. Each reads its line from the place after the letter, and gives the place of the next
+// line, or 0 where the line departs from the form. Lent memory that a call writes holds 7
+// everywhere before it.
+ghost use Prim.Native.Nat.{_<_};
+ghost use lib.ListN.{length};
+use super::write::line;
+use library_calls::rothc_list;
+use library_calls::rothc_month;
+use library_calls::rothc_spin_up;
+use library_calls::rothc_start;
+use library_calls::rothc_survival;
+use list_rows::ENTRIES_WIDTH;
+use list_rows::LAND_WIDTH;
+use list_rows::ROW_WIDTH;
+use list_rows::WEATHER_WIDTH;
+use month_layouts::SOIL_WIDTH;
+use month_layouts::STATE_WIDTH;
+use test_numbers::line_end;
+use test_numbers::read_list;
+use test_numbers::read_number;
+use test_numbers::read_numbers;
+use test_numbers::read_signed_numbers;
+
+// N: a soil's new state.
+fn start(text: &[u8], at: usize) -> usize {
+    let mut soil = [0u64; SOIL_WIDTH];
+    let next = line_end(text, read_numbers(text, at, &mut soil));
+    if next == 0 {
+        return 0;
+    }
+    let mut state = [7u64; STATE_WIDTH];
+    let number = rothc_start(&soil, &mut state);
+    line(&[number], &state, &[]);
+    next
+}
+
+// M: a single month call.
+fn month(text: &[u8], at: usize) -> usize {
+    let mut state = [0u64; STATE_WIDTH];
+    let after = read_numbers(text, at, &mut state);
+    let number = read_number(text, after);
+    let mut entries = [0i64; ENTRIES_WIDTH];
+    let next = line_end(text, read_signed_numbers(text, number.next, &mut entries));
+    if next == 0 {
+        return 0;
+    }
+    let mut row = [7u64; ROW_WIDTH];
+    let refusal = rothc_month(&mut state, number.value, &entries, &mut row);
+    line(&[refusal], &row, &state);
+    next
+}
+
+// L: a list of months.
+fn list(state: &mut [u64], weather: &[i64], land: &[i64], rows: &mut [u64]) {
+    let mut place = 7u64;
+    let number = rothc_list(state, weather, land, rows, &mut place);
+    line(&[number, place], state, rows);
+}
+
+// The same with an output of so many numbers. False where that is more than there is memory for.
+fn sized_list(state: &mut [u64], weather: &[i64], land: &[i64], o: u64) -> bool {
+    if 8_500 < o {
+        return false;
+    }
+    let n = o as usize;
+    let mut rows = [7u64; 8_500];
+    list(state, weather, land, &mut rows[..n]);
+    true
+}
+
+// S: a spin-up.
+fn spin_up(state: &mut [u64], weather: &[i64], land: &[i64], years: u64) {
+    let mut result = [7u64; 2];
+    let number = rothc_spin_up(state, weather, land, years, &mut result);
+    line(&[number], &result, state);
+}
+
+// One of the two.
+fn run(state: &mut [u64], weather: &[i64], land: &[i64], n: u64, letter: u8) -> bool {
+    if letter == 76 {
+        return sized_list(state, weather, land, n);
+    }
+    spin_up(state, weather, land, n);
+    true
+}
+
+// L and S: the weather, the land, a number and the state.
+fn series(text: &[u8], at: usize, letter: u8) -> usize {
+    let mut weather = [0i64; WEATHER_WIDTH * 1_250];
+    let mut land = [0i64; LAND_WIDTH * 1_250];
+    let mut state = [0u64; STATE_WIDTH];
+    let ws = read_list(text, at, &mut weather);
+    let ls = read_list(text, ws.next, &mut land);
+    let n = read_number(text, ls.next);
+    let next = line_end(text, read_numbers(text, n.next, &mut state));
+    if next == 0 {
+        return 0;
+    }
+    let w = ws.value;
+    let l = ls.value;
+    if run(&mut state, &weather[..w], &land[..l], n.value, letter) {
+        return next;
+    }
+    0
+}
+
+// Whether two numbers are at most 1 apart.
+fn close(a: u64, b: u64) -> u64 {
+    if a < b {
+        if b - a == 1 { 1 } else { 0 }
+    } else {
+        if a - b <= 1 { 1 } else { 0 }
+    }
+}
+
+// D: a survival number.
+fn survival(text: &[u8], at: usize) -> usize {
+    let mut numbers = [0u64; 3];
+    let next = line_end(text, read_numbers(text, at, &mut numbers));
+    if next == 0 {
+        return 0;
+    }
+    let s = rothc_survival(numbers[0], numbers[1]);
+    line(&[close(s, numbers[2])], &[], &[]);
+    next
+}
+
+// The call of the line at a place.
+pub fn call(text: &[u8], at: usize) -> usize
+    requires { ⌜ at < length (now text) ⌝ }
+{
+    let letter = text[at];
+    match letter {
+        78 => start(text, at + 1),
+        77 => month(text, at + 1),
+        76 | 83 => series(text, at + 1, letter),
+        68 => survival(text, at + 1),
+        _ => 0,
+    }
+}
