@@ -1,21 +1,24 @@
-// Times the proved functions beside an ordinary floating-point RothC, in one run and in
-// alternation, and writes medians and ratios. bench/run builds and runs it.
+// Times the proved functions beside ordinary C (a floating-point RothC, and a reader of tables with
+// strtod), in one run and in alternation, and writes medians and ratios. bench/run builds and runs
+// it.
 #include <math.h>
 #include <stdint.h>
 #include <stdio.h>
 #include <stdlib.h>
+#include <string.h>
 #include <time.h>
 
 #include "rothc.h"
 
 // Rothamsted's weather, and a year of the unmanured plot on Hoosfield (examples/README.md).
-static const int64_t rothamsted[36] = {34, 740, 80, 36, 590, 100, 51, 620, 270, 73, 510, 490, 110, 520, 830, 139, 570, 990,
-                                       160, 340, 1030, 160, 550, 910, 135, 580, 690, 102, 560, 340, 61, 750, 160, 46, 710, 80};
-static const int64_t crops[36] = {0, 0, 0, 0, 0, 0, 0, 0, 0, 1, 160000, 0, 1, 320000, 0, 1, 480000, 0,
+static const int64_t rothamsted[12 * ROTHC_WEATHER] = {
+    34,  740, 80,   0, 36,  590, 100, 0, 51,  620, 270, 0, 73,  510, 490, 0, 110, 520, 830, 0, 139, 570, 990, 0,
+    160, 340, 1030, 0, 160, 550, 910, 0, 135, 580, 690, 0, 102, 560, 340, 0, 61,  750, 160, 0, 46,  710, 80,  0};
+static const int64_t crops[12 * ROTHC_LAND] = {0, 0, 0, 0, 0, 0, 0, 0, 0, 1, 160000, 0, 1, 320000, 0, 1, 480000, 0,
                                   1, 640000, 0, 0, 0, 0, 0, 0, 0, 0, 0, 0, 0, 0, 0, 0, 0, 0};
 // Every month at -5 degrees: the pools grow for longer than 10,000 years, so that the spin-up never
 // settles.
-static int64_t cold[36], residue[36], land[3600];
+static int64_t cold[12 * ROTHC_WEATHER], residue[12 * ROTHC_LAND], land[ROTHC_MOST_ROWS * ROTHC_LAND];
 
 typedef struct { double dpm, rpm, bio, hum, iom, deficit, gas; } field;
 
@@ -25,7 +28,7 @@ static field month(field f, const int64_t *w, const int64_t *l) {
   double ratio = 1.67 * (1.85 + 1.60 * exp(-0.0786 * clay));
   double a = 47.91 / (1 + exp(106.06 / (w[0] / 10.0 + 18.27)));
   double limit = l[0] ? largest : fmax(f.deficit, largest / 1.8);
-  f.deficit = fmin(fmax(f.deficit + 0.75 * w[2] / 10.0 - w[1] / 10.0, 0), limit);
+  f.deficit = fmin(fmax(f.deficit + (w[3] ? 1.0 : 0.75) * w[2] / 10.0 - w[1] / 10.0, 0), limit);
   double b = f.deficit < 0.444 * largest ? 1 : 0.2 + 0.8 * (largest - f.deficit) / (largest - 0.444 * largest);
   double rate = a * b * (l[0] ? 0.6 : 1.0) / 12;
   double d = f.dpm * exp(-rate * 10), r = f.rpm * exp(-rate * 0.3), o = f.bio * exp(-rate * 0.66), h = f.hum * exp(-rate * 0.02);
@@ -45,14 +48,14 @@ static const uint64_t hoosfield_soil[ROTHC_SOIL] = {234, 23, 1, 153300, 4485200,
 static uint64_t proved_list(uint64_t *rows) {
   uint64_t state[ROTHC_STATE], place;
   rothc_start(hoosfield_soil, ROTHC_SOIL, state, ROTHC_STATE);
-  rothc_list(state, ROTHC_STATE, rothamsted, 36, land, 3600, rows, 8400, &place);
+  rothc_list(state, ROTHC_STATE, rothamsted, 12 * ROTHC_WEATHER, land, ROTHC_MOST_ROWS * ROTHC_LAND, rows, 8400, &place);
   return state[ROTHC_STATE_MONTHS];
 }
 
 static uint64_t proved_spin_up(uint64_t years) {
   uint64_t state[ROTHC_STATE], result[ROTHC_RESULT];
   rothc_start(hoosfield_soil, ROTHC_SOIL, state, ROTHC_STATE);
-  rothc_spin_up(state, ROTHC_STATE, cold, 36, residue, 36, years, result, ROTHC_RESULT);
+  rothc_spin_up(state, ROTHC_STATE, cold, 12 * ROTHC_WEATHER, residue, 12 * ROTHC_LAND, years, result, ROTHC_RESULT);
   return state[ROTHC_STATE_MONTHS];
 }
 
@@ -61,7 +64,9 @@ static uint64_t proved_months(uint64_t *row) {
   uint64_t state[ROTHC_STATE];
   rothc_start(hoosfield_soil, ROTHC_SOIL, state, ROTHC_STATE);
   for (int m = 0; m < 12; m++) {
-    int64_t entries[ROTHC_ENTRIES] = {rothamsted[3 * m], rothamsted[3 * m + 1], rothamsted[3 * m + 2], crops[3 * m], crops[3 * m + 1], crops[3 * m + 2]};
+    int64_t entries[ROTHC_ENTRIES];
+    memcpy(entries, rothamsted + ROTHC_WEATHER * m, ROTHC_WEATHER * sizeof *entries);
+    memcpy(entries + ROTHC_WEATHER, crops + ROTHC_LAND * m, ROTHC_LAND * sizeof *entries);
     rothc_month(state, ROTHC_STATE, m + 1, entries, ROTHC_ENTRIES, row, ROTHC_ROW);
   }
   return state[ROTHC_STATE_MONTHS];
@@ -72,7 +77,7 @@ static double total(field f) { return f.dpm + f.rpm + f.bio + f.hum + f.iom; }
 static double float_list(double *out) {
   field f = hoosfield;
   for (int j = 0; j < 1200; j++) {
-    f = month(f, rothamsted + 3 * (j % 12), land + 3 * j);
+    f = month(f, rothamsted + ROTHC_WEATHER * (j % 12), land + ROTHC_LAND * j);
     double row[7] = {f.dpm, f.rpm, f.bio, f.hum, f.iom, f.gas, f.deficit};
     for (int k = 0; k < 7; k++) out[7 * j + k] = row[k];
   }
@@ -83,10 +88,33 @@ static double float_spin_up(int years) {
   field f = hoosfield;
   for (int year = 0; year < years; year++) {
     double start = total(f);
-    for (int m = 0; m < 12; m++) f = month(f, cold + 3 * m, residue + 3 * m);
+    for (int m = 0; m < 12; m++) f = month(f, cold + ROTHC_WEATHER * m, residue + ROTHC_LAND * m);
     if (fabs(total(f) - start) <= 0.001) return total(f);
   }
   return total(f);
+}
+
+// An ordinary reader of a table in memory, which ends with a byte 0: strtol for the month and strtod
+// for the others, each row kept in doubles. Gives the rows, or -1 where something else stands there.
+static int read_table(const char *text, double *weather) {
+  int rows = 0;
+  while (*text) {
+    char *end;
+    long number = strtol(text, &end, 10);
+    if (rows == ROTHC_MOST_ROWS || end == text || number != rows + 1) return -1;
+    for (int k = 0; k < 3; k++) {
+      if (*end != ';') return -1;
+      text = end + 1;
+      weather[3 * rows + k] = strtod(text, &end);
+      if (end == text) return -1;
+    }
+    if (*end != '\n') return -1;
+    if (weather[3 * rows] < -40 || weather[3 * rows] > 50) return -1;
+    for (int k = 1; k < 3; k++)
+      if (weather[3 * rows + k] < 0 || weather[3 * rows + k] > 2000) return -1;
+    text = end + 1, rows++;
+  }
+  return rows;
 }
 
 static double now(void) {
@@ -108,7 +136,7 @@ static void report(const char *what, const char *unit) {
   qsort(proved, RUNS, sizeof(double), by_size);
   qsort(plain, RUNS, sizeof(double), by_size);
   qsort(ratio, RUNS, sizeof(double), by_size);
-  printf("%s: proved %.3f %s, floating point %.3f %s, ratio %.2f (%.2f to %.2f)\n", what, proved[RUNS / 2], unit, plain[RUNS / 2], unit,
+  printf("%s: proved %.3f %s, ordinary C %.3f %s, ratio %.2f (%.2f to %.2f)\n", what, proved[RUNS / 2], unit, plain[RUNS / 2], unit,
          ratio[RUNS / 2], ratio[0], ratio[RUNS - 1]);
 }
 
@@ -119,10 +147,11 @@ int main(void) {
   double floats = 0;
   char what[80];
   for (int m = 0; m < 12; m++) {
-    cold[3 * m] = -50, cold[3 * m + 1] = rothamsted[3 * m + 1], cold[3 * m + 2] = rothamsted[3 * m + 2];
+    memcpy(cold + ROTHC_WEATHER * m, rothamsted + ROTHC_WEATHER * m, ROTHC_WEATHER * sizeof *cold);
+    cold[ROTHC_WEATHER * m] = -50;
     residue[3 * m] = crops[3 * m], residue[3 * m + 1] = 100000, residue[3 * m + 2] = 0;
   }
-  for (int j = 0; j < 3600; j++) land[j] = crops[j % 36];
+  for (int j = 0; j < ROTHC_MOST_ROWS * ROTHC_LAND; j++) land[j] = crops[j % (12 * ROTHC_LAND)];
   // The four survival numbers of a month over random N, beside four calls of exp. (rothc_survival
   // makes the four and returns one.)
   for (int i = 0; i < NUMBERS; i++) {
@@ -147,7 +176,7 @@ int main(void) {
     double middle = now();
     for (int i = 0; i < 1000; i++) {
       field f = hoosfield;
-      for (int m = 0; m < 12; m++) f = month(f, rothamsted + 3 * m, crops + 3 * m);
+      for (int m = 0; m < 12; m++) f = month(f, rothamsted + ROTHC_WEATHER * m, crops + ROTHC_LAND * m);
       floats += total(f);
     }
     proved[run] = (middle - start) / 12000 * 1e9, plain[run] = (now() - middle) / 12000 * 1e9;
@@ -176,6 +205,33 @@ int main(void) {
     }
     snprintf(what, sizeof what, "spin-up, %6llu months", (unsigned long long)done);
     report(what, "ms");
+  }
+  // tables of 12, 120 and 1,200 lines, their temperatures from -5 to 20 degrees
+  static char table[ROTHC_MOST_ROWS * 40];
+  static int64_t read[ROTHC_MOST_ROWS * ROTHC_WEATHER];
+  static double kept[ROTHC_MOST_ROWS * 3];
+  for (int lines = 12; lines <= ROTHC_MOST_ROWS; lines *= 10) {
+    size_t size = 0;
+    int times = 120000 / lines;
+    uint64_t got = 0, place = 0;
+    for (int j = 0; j < lines; j++) {
+      x ^= x << 13, x ^= x >> 7, x ^= x << 17;
+      size += sprintf(table + size, "%d;%.1f;%.1f;%.1f\n", j + 1, (1 + (int)(x % 250)) / 10.0 - (x % 3 ? 0 : 5.1), x / 251 % 1500 / 10.0, x / 377 % 1300 / 10.0);
+    }
+    for (int run = 0; run < RUNS; run++) {
+      int rows = 0;
+      double start = now();
+      for (int i = 0; i < times; i++) sink += rothc_table((const uint8_t *)table, size, read, ROTHC_MOST_ROWS * ROTHC_WEATHER, &got, &place);
+      double middle = now();
+      for (int i = 0; i < times; i++) rows = read_table(table, kept);
+      proved[run] = (middle - start) / times * 1e6, plain[run] = (now() - middle) / times * 1e6;
+      if (got != (uint64_t)lines || rows != lines) return printf("a table was not read: line %d\n", (int)place), 2;
+    }
+    for (int j = 0; j < lines; j++)
+      for (int k = 0; k < 3; k++)
+        if (read[ROTHC_WEATHER * j + k] != lround(10 * kept[3 * j + k])) return printf("line %d differs\n", j + 1), 2;
+    snprintf(what, sizeof what, "a table of %4d lines, %zu bytes", lines, size);
+    report(what, "us");
   }
   return sink == 0 && floats == 0;
 }

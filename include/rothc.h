@@ -6,10 +6,11 @@
  * examples/library builds the archive (and a shared object) and runs a program in C, Rust and
  * Python over it. The archive is for x86-64 Linux.
  *
- * Units. Carbon is in whole grams a hectare (a tonne is 1,000,000 g). Rain and open-pan evaporation
- * are in tenths of a millimetre, temperature in tenths of a degree Celsius, clay in tenths of a
- * percent, depth in whole centimetres. The soil moisture deficit is in parts, 2,070,000 to the
- * millimetre.
+ * Units. Carbon is in whole grams a hectare (a tonne is 1,000,000 g). Rain and evaporation are in
+ * tenths of a millimetre, temperature in tenths of a degree Celsius, clay in tenths of a percent,
+ * depth in whole centimetres. The soil moisture deficit is in parts, 2,070,000 to the millimetre.
+ * Evaporation is an open pan's, of which 0.75 counts, or potential evapotranspiration, of which all
+ * does: the number after it says which.
  *
  * Memory. The caller lends all memory, as a pointer and a length counted in elements (not in
  * bytes); nothing is kept, allocated or shared between calls, so that calls on different memory can
@@ -35,15 +36,16 @@ extern "C" {
 
 /* What a call can return. The refusals have the numbers of the program's REFUSED line. Of several
  * that apply, the first in checking order is returned: docs/REFUSALS.md has the order of each call.
- * In a list or a spin-up the earliest month with a fault comes first, in a book the earliest line.
- * (rothc_book asks ROOM last; ROTHC_SHAPE comes before everything.) */
+ * In a list or a spin-up the earliest month with a fault comes first, in a book or a table the
+ * earliest line. (rothc_book asks ROOM last; ROTHC_SHAPE comes before everything.) */
 enum {
   ROTHC_DONE = 0,
   ROTHC_BOOK_LENGTH = 1,   /* the book is longer than 65,536 bytes */
   ROTHC_LINE = 2,          /* a line of the book is missing or isn't of its form */
   ROTHC_ROWS = 3,          /* SOIL's count isn't 1, another count or a number of rows is outside
-                              1 to 1,200, or a list isn't three numbers a row (spin-up: twelve
-                              rows) */
+                              1 to 1,200, or a list isn't four numbers a weather row and three a
+                              land row (spin-up: twelve rows); a table has no lines or more than
+                              1,200 */
   ROTHC_CLAY = 4,          /* clay is outside 0 to 1000 */
   ROTHC_DEPTH = 5,         /* depth is outside 1 to 100 */
   ROTHC_KIND = 6,          /* the plant kind is not 1, 2 or 3 */
@@ -61,11 +63,22 @@ enum {
   ROTHC_ADDITIONS = 16,    /* plant or manure is outside 0 to 100,000,000 */
   ROTHC_CEILING = 17,      /* active pools before the month, plus plant and manure, exceed
                               1,000,000,000 */
+  ROTHC_TABLE_LINE = 18,   /* a line of a table isn't of its form, or its month isn't the line's
+                              number */
+  ROTHC_SOURCE = 19,       /* the evaporation's source is neither 0 nor 1; asked after 14 */
   ROTHC_SHAPE = 100        /* memory of a fixed layout has another length */
 };
 
 /* The layouts: how many numbers each has, and the index of each number. */
-enum { ROTHC_SOIL = 8, ROTHC_STATE = 11, ROTHC_ENTRIES = 6, ROTHC_ROW = 7, ROTHC_RESULT = 2 };
+enum {
+  ROTHC_SOIL = 8,
+  ROTHC_STATE = 11,
+  ROTHC_WEATHER = 4, /* a weather row */
+  ROTHC_LAND = 3,    /* a land row */
+  ROTHC_ENTRIES = 7, /* a month's: a weather row and a land row */
+  ROTHC_ROW = 7,
+  ROTHC_RESULT = 2
+};
 
 /* A soil, 8 x uint64_t. A state, 11 x uint64_t, is a soil and three numbers more. */
 enum {
@@ -83,15 +96,16 @@ enum {
   ROTHC_STATE_CO2 = 10    /* CO2 to date, grams of carbon */
 };
 
-/* A month's entries, 6 x int64_t. A list's weather row is the first three and its land row the last
+/* A month's entries, 7 x int64_t. A list's weather row is the first four and its land row the last
  * three. */
 enum {
   ROTHC_ENTRIES_TEMPERATURE = 0,
   ROTHC_ENTRIES_RAIN = 1,
   ROTHC_ENTRIES_EVAPORATION = 2,
-  ROTHC_ENTRIES_COVER = 3, /* 1 crop, 0 bare */
-  ROTHC_ENTRIES_PLANT = 4,
-  ROTHC_ENTRIES_MANURE = 5
+  ROTHC_ENTRIES_SOURCE = 3, /* of the evaporation: 0 open pan, 1 potential evapotranspiration */
+  ROTHC_ENTRIES_COVER = 4,  /* 1 crop, 0 bare */
+  ROTHC_ENTRIES_PLANT = 5,
+  ROTHC_ENTRIES_MANURE = 6
 };
 
 /* A month's row, 7 x uint64_t: the pools after the month, the CO2 of the month and the deficit
@@ -105,6 +119,9 @@ enum {
   ROTHC_ROW_CO2 = 5,
   ROTHC_ROW_DEFICIT = 6
 };
+
+/* The rows that a list may have, and the lines that a table may have. */
+enum { ROTHC_MOST_ROWS = 1200 };
 
 /* Always enough bytes for what is written for a book. */
 enum { ROTHC_TEXT = 204800 };
@@ -130,20 +147,22 @@ uint64_t rothc_start(const uint64_t *soil, size_t soil_len, uint64_t *state, siz
  * plus 1.
  * state: ROTHC_STATE numbers. entries: ROTHC_ENTRIES numbers. row: ROTHC_ROW numbers, of any
  * values.
- * Refusals: CLAY to CARBON for the state's soil, STATE_BOUNDS, and TURN to CEILING. A refusal
- * leaves state and row as they were. */
+ * Refusals: CLAY to CARBON for the state's soil, STATE_BOUNDS, and TURN to CEILING, with SOURCE
+ * after WATER. A refusal leaves state and row as they were. */
 uint64_t rothc_month(uint64_t *state, size_t state_len, uint64_t number, const int64_t *entries,
                      size_t entries_len, uint64_t *row, size_t row_len);
 
 /* Runs a list of months, one for each land row, and writes their rows one after another to the
  * start of rows; what lies past the last row written stays. Month j, counted from 1, takes land row
  * j and weather row ((j - 1) mod weather rows) + 1.
- * state: ROTHC_STATE numbers. weather: temperature, rain, evaporation for each row. land: cover,
- * plant, manure for each row. rows: at least ROTHC_ROW numbers a land row. place: one number.
+ * state: ROTHC_STATE numbers. weather: temperature, rain, evaporation, source for each row. land:
+ * cover, plant, manure for each row. rows: at least ROTHC_ROW numbers a land row. place: one
+ * number.
  * Refusals: ROWS, CLAY to CARBON, ROOM, STATE_BOUNDS leave state and rows as they were and set
- * place to 0. MONTH_LIMIT to CEILING set place to the month that is refused, counted from the
- * list's first: the months before it have run, state is the one after them, and their rows are
- * written. Where the list ran to its end, place is 0. Only rows that its months use are checked. */
+ * place to 0. MONTH_LIMIT to CEILING, with SOURCE after WATER, set place to the month that is
+ * refused, counted from the list's first: the months before it have run, state is the one after
+ * them, and their rows are written. Where the list ran to its end, place is 0. Only rows that its
+ * months use are checked. */
 uint64_t rothc_list(uint64_t *state, size_t state_len, const int64_t *weather, size_t weather_len,
                     const int64_t *land, size_t land_len, uint64_t *rows, size_t rows_len,
                     uint64_t *place);
@@ -151,11 +170,12 @@ uint64_t rothc_list(uint64_t *state, size_t state_len, const int64_t *weather, s
 /* Repeats twelve weather and twelve land rows, year after year, until the first year whose end
  * total (five pools) is at most 1,000 g from the total at its start, or until the years are run,
  * and leaves the state reached.
- * state: ROTHC_STATE numbers. weather, land: 36 numbers each, as in a list. years: those allowed, 1
+ * state: ROTHC_STATE numbers. weather: 48 numbers, land: 36, as in a list. years: those allowed, 1
  * to 10,000. result: ROTHC_RESULT numbers: 1 for settled or 0 for unsettled, and the years run.
- * Refusals: ROWS, CLAY to CARBON, YEARS, STATE_BOUNDS, and MONTH_LIMIT to CEILING for one of the
- * months. A refusal leaves state as it was; result then has 0 and the month that is refused,
- * counted over all years from the first, or 0 for a fault outside the months. */
+ * Refusals: ROWS, CLAY to CARBON, YEARS, STATE_BOUNDS, and for one of the months MONTH_LIMIT to
+ * CEILING, with SOURCE after WATER. A refusal leaves state as it was; result then has 0 and the
+ * month that is refused, counted over all years from the first, or 0 for a fault outside the
+ * months. */
 uint64_t rothc_spin_up(uint64_t *state, size_t state_len, const int64_t *weather,
                        size_t weather_len, const int64_t *land, size_t land_len, uint64_t years,
                        uint64_t *result, size_t result_len);
@@ -169,6 +189,20 @@ uint64_t rothc_spin_up(uint64_t *state, size_t state_len, const int64_t *weather
  * The call needs 352 kilobytes of stack. */
 uint64_t rothc_book(const uint8_t *book, size_t book_len, uint8_t *out, size_t out_len,
                     uint64_t *length);
+
+/* Reads a weather office's table, a text as docs/TABLES.md says: lines of month, temperature, rain
+ * and potential evapotranspiration, with semicolons between them. Writes a weather row for each
+ * line to the start of weather, its last number 1; what lies past the rows stays. They are weather
+ * rows for a list as they are.
+ * table: bytes, any number of them. weather: at least ROTHC_WEATHER numbers a line, of any values;
+ * ROTHC_WEATHER * ROTHC_MOST_ROWS are always enough. rows, place: one number each: how many rows
+ * were written, and 0; where the table is refused, 0, and the line or 0.
+ * Refusals: ROWS and ROOM with place 0, then line by line TABLE_LINE, TEMPERATURE and WATER, with
+ * the line as place, counted from 1. Bytes after the last line end are a line too, but never one of
+ * the form. A refusal leaves weather as it was.
+ * The call needs 40 kilobytes of stack. */
+uint64_t rothc_table(const uint8_t *table, size_t table_len, int64_t *weather, size_t weather_len,
+                     uint64_t *rows, uint64_t *place);
 
 #ifdef __cplusplus
 }

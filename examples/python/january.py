@@ -4,10 +4,10 @@
 """
 import ctypes
 
-from rothc import Byte, Signed, Unsigned, done, lent, load
+from rothc import Signed, Unsigned, done, lent, load, run_book
 
-TEXT = 204800  # always enough bytes for what is written for a book
 BOOK = b"SOIL 1\n234 23 1 153300 4485200 667100 25857600 2700000\nWEATHER 1\n34 740 80\nLAND 1\n0 0 0\n"
+WEATHER, LAND = [34, 740, 80, 0], [0, 0, 0]  # the fourth number: the evaporation is an open pan's
 
 
 def show(month, row, state):
@@ -23,17 +23,17 @@ def main():
     done("rothc_start", rothc.rothc_start(*soil, *start))
 
     state, row = lent(Unsigned, start[0]), lent(Unsigned, [0] * 7)
-    done("rothc_month", rothc.rothc_month(*state, 1, *lent(Signed, [34, 740, 80, 0, 0, 0]), *row))
+    done("rothc_month", rothc.rothc_month(*state, 1, *lent(Signed, WEATHER + LAND), *row))
     show(1, row[0], state[0])
 
     state, row, place = lent(Unsigned, start[0]), lent(Unsigned, [0] * 7), Unsigned(0)
-    weather, land = lent(Signed, [34, 740, 80]), lent(Signed, [0, 0, 0])
+    weather, land = lent(Signed, WEATHER), lent(Signed, LAND)
     done("rothc_list", rothc.rothc_list(*state, *weather, *land, *row, ctypes.byref(place)))
     show(1, row[0], state[0])
 
-    text, length = lent(Byte, bytes(TEXT)), Unsigned(0)
-    done("rothc_book", rothc.rothc_book(*lent(Byte, BOOK), *text, ctypes.byref(length)))
-    print(bytes(text[0][: length.value]).decode(), end="")
+    number, text = run_book(rothc, BOOK)
+    done("rothc_book", number)
+    print(text, end="")
 
 
 main()

@@ -5,18 +5,25 @@ import sys
 
 Unsigned, Signed, Byte, Size = ctypes.c_uint64, ctypes.c_int64, ctypes.c_uint8, ctypes.c_size_t
 LIBRARY = pathlib.Path(__file__).resolve().parents[2] / "target" / "library" / "librothc.so"
+TEXT = 204800  # always enough bytes for what is written for a book
+WEATHER, LAND, ROW = 4, 3, 7  # the numbers of a weather row, a land row and a month's row
+MOST_ROWS = 1200  # the most lines of a table
 
 
 def load():
+    if not LIBRARY.exists():
+        stop(f"{LIBRARY} is missing: ./library builds it")
     library = ctypes.CDLL(str(LIBRARY))
     numbers, signed, octets = ([ctypes.POINTER(kind), Size] for kind in (Unsigned, Signed, Byte))
+    number = [ctypes.POINTER(Unsigned)]
     for name, arguments in {
         "rothc_survival": [Unsigned, Unsigned],
         "rothc_start": numbers + numbers,
         "rothc_month": numbers + [Unsigned] + signed + numbers,
-        "rothc_list": numbers + signed + signed + numbers + [ctypes.POINTER(Unsigned)],
+        "rothc_list": numbers + signed + signed + numbers + number,
         "rothc_spin_up": numbers + signed + signed + [Unsigned] + numbers,
-        "rothc_book": octets + octets + [ctypes.POINTER(Unsigned)],
+        "rothc_book": octets + octets + number,
+        "rothc_table": octets + signed + number + number,
     }.items():
         getattr(library, name).argtypes = arguments
         getattr(library, name).restype = Unsigned
@@ -31,3 +38,25 @@ def lent(kind, numbers):
 def done(call, number):
     if number:
         sys.exit(f"{call}: refused, {number}")
+
+
+def stop(message):
+    """Ends the program, with status 2: what was asked couldn't be tried at all."""
+    print(message, file=sys.stderr)
+    sys.exit(2)
+
+
+def run_book(library, book):
+    """A book's refusal, or 0, and what the program writes for the book."""
+    text, length = lent(Byte, bytes(TEXT)), Unsigned(0)
+    number = library.rothc_book(*lent(Byte, book), *text, ctypes.byref(length))
+    return number, bytes(text[0][: length.value]).decode()
+
+
+def read_table(library, table):
+    """A table's refusal, or 0, the refusal's line, and the numbers of the weather rows."""
+    weather, rows, line = lent(Signed, [0] * (WEATHER * MOST_ROWS)), Unsigned(0), Unsigned(0)
+    number = library.rothc_table(
+        *lent(Byte, table), *weather, ctypes.byref(rows), ctypes.byref(line)
+    )
+    return number, line.value, weather[0][: WEATHER * rows.value]

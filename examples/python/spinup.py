@@ -13,7 +13,8 @@ EVAPORATION = [80, 100, 270, 490, 830, 990, 1030, 910, 690, 340, 160, 80]
 def main():
     rothc = load()
     soil, state, result = lent(Unsigned, [234, 23, 1, 0, 0, 0, 0, 2_700_000]), lent(Unsigned, [0] * 11), lent(Unsigned, [0] * 2)
-    weather = [number for row in zip(TEMPERATURE, RAIN, EVAPORATION) for number in row]
+    # a row's fourth number is 0: the evaporation is an open pan's
+    weather = [number for row in zip(TEMPERATURE, RAIN, EVAPORATION, [0] * 12) for number in row]
     # 0.212 t a month from January to July and in December, under a crop; bare and nothing in the
     # other months
     land = [number for month in range(12) for number in ((0, 0, 0) if 7 <= month <= 10 else (1, 212_000, 0))]

@@ -41,7 +41,7 @@ mod rothc {
         }
     }
 
-    pub fn month(state: &mut State, number: u64, entries: &[i64; 6]) -> Result<Row, u64> {
+    pub fn month(state: &mut State, number: u64, entries: &[i64; 7]) -> Result<Row, u64> {
         let mut row = [0; 7];
         let answer = unsafe {
             c::rothc_month(state.as_mut_ptr(), state.len(), number, entries.as_ptr(), entries.len(), row.as_mut_ptr(), row.len())
@@ -99,13 +99,14 @@ fn main() {
     let soil = [234, 23, 1, 153300, 4485200, 667100, 25857600, 2700000];
     let start = rothc::start(&soil).expect("rothc_start: refused");
 
+    // the fourth number is 0: the evaporation is an open pan's
     let mut state = start;
-    let row = rothc::month(&mut state, 1, &[34, 740, 80, 0, 0, 0]).expect("rothc_month: refused");
+    let row = rothc::month(&mut state, 1, &[34, 740, 80, 0, 0, 0, 0]).expect("rothc_month: refused");
     print(1, &row, &state);
 
     let mut state = start;
     let mut row = [0; 7];
-    rothc::list(&mut state, &[34, 740, 80], &[0, 0, 0], &mut row).expect("rothc_list: refused");
+    rothc::list(&mut state, &[34, 740, 80, 0], &[0, 0, 0], &mut row).expect("rothc_list: refused");
     print(1, &row, &state);
 
     let book = b"SOIL 1\n234 23 1 153300 4485200 667100 25857600 2700000\nWEATHER 1\n34 740 80\nLAND 1\n0 0 0\n";

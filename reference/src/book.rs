@@ -2,7 +2,7 @@
 
 use crate::model::{
     check_land, check_weather, run_month, Cause, Entries, Refusal, Row, Soil, State, Survival,
-    Watch,
+    Watch, OPEN_PAN,
 };
 
 /// The longest book (1).
@@ -52,16 +52,16 @@ impl<'a> Lines<'a> {
         }
     }
 
-    /// A row of values, one space between; `signed` if the first may have a minus.
-    fn row<const N: usize>(&mut self, signed: bool) -> Result<[i64; N], Refusal> {
+    /// A row of values, one space between; `minus` if the first may have one.
+    fn row<const N: usize>(&mut self, minus: bool) -> Result<[i64; N], Refusal> {
         let line = self.next();
-        line.and_then(|line| values(line, signed))
+        line.and_then(|line| values(line, minus))
             .ok_or_else(|| self.refuse(Cause::Form))
     }
 }
 
 /// A value: 0, or a digit 1 to 9 and up to nine more digits.
-fn value(text: &[u8]) -> Option<i64> {
+pub fn value(text: &[u8]) -> Option<i64> {
     if text == b"0" {
         return Some(0);
     }
@@ -75,23 +75,23 @@ fn value(text: &[u8]) -> Option<i64> {
     )
 }
 
-/// A value that may have a minus, not before 0.
-fn signed_value(text: &[u8]) -> Option<i64> {
+/// A number of this form that may have a minus, not before 0.
+pub fn signed(text: &[u8], form: impl Fn(&[u8]) -> Option<i64>) -> Option<i64> {
     match text.strip_prefix(b"-") {
-        None => value(text),
-        Some(digits) => value(digits)
+        None => form(text),
+        Some(digits) => form(digits)
             .filter(|number| *number != 0)
             .map(|number| -number),
     }
 }
 
-fn values<const N: usize>(line: &[u8], signed: bool) -> Option<[i64; N]> {
+fn values<const N: usize>(line: &[u8], minus: bool) -> Option<[i64; N]> {
     let mut numbers = [0; N];
     let mut parts = line.split(|byte| *byte == b' ');
     for (index, number) in numbers.iter_mut().enumerate() {
         let part = parts.next()?;
-        *number = if index == 0 && signed {
-            signed_value(part)?
+        *number = if index == 0 && minus {
+            signed(part, value)?
         } else {
             value(part)?
         };
@@ -163,6 +163,7 @@ fn pass(
             temperature,
             rain,
             evaporation,
+            source: OPEN_PAN,
             cover,
             plant,
             manure,
@@ -241,10 +242,10 @@ mod tests {
         ] {
             assert_eq!(value(text.as_bytes()), None, "{text:?}");
         }
-        assert_eq!(signed_value(b"-5"), Some(-5));
-        assert_eq!(signed_value(b"-9999999999"), Some(-9_999_999_999));
+        assert_eq!(signed(b"-5", value), Some(-5));
+        assert_eq!(signed(b"-9999999999", value), Some(-9_999_999_999));
         for text in ["-0", "-05", "--5", "-", "+5", "- 5", "-00"] {
-            assert_eq!(signed_value(text.as_bytes()), None, "{text:?}");
+            assert_eq!(signed(text.as_bytes(), value), None, "{text:?}");
         }
     }
 

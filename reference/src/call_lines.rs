@@ -4,12 +4,13 @@
 //! reference.
 
 use crate::calls::{
-    entries_of, soil_of, state_of, Call, EntryNumbers, SoilNumbers, StateNumbers, CLAY, CO2, COVER,
-    DEFICIT, DEPTH, EVAPORATION, INERT, KIND, MANURE, MONTHS, PLANT, POOLS, RAIN, SOIL_NUMBERS,
-    TEMPERATURE,
+    entries_of, soil_of, state_of, Call, EntryNumbers, LandRow, SoilNumbers, StateNumbers,
+    WeatherRow, CLAY, CO2, COVER, DEFICIT, DEPTH, EVAPORATION, FILL, INERT, KIND, MANURE, MONTHS,
+    PLANT, POOLS, RAIN, SOIL_NUMBERS, SOURCE, TEMPERATURE,
 };
 use crate::exponential::{allowed_range, survival_nearest, BILLION};
-use crate::model::{factors, kept, RATES};
+use crate::model::{factors, kept, LAND_NUMBERS, OUTPUT_NUMBERS, RATES, WEATHER_NUMBERS};
+use crate::table;
 use crate::vectors::Draw;
 
 /// A call with the numbers of its answer.
@@ -74,15 +75,34 @@ impl Sheet {
         self.put(call, answer);
     }
 
-    /// A list or spin-up that is refused with this number at this place.
+    /// A list, spin-up or table that is refused with this number at this place.
     fn refused_at(&mut self, number: u64, place: u64, call: Call) {
         self.refused(number, call.clone());
-        let answer = &self.groups.last().unwrap().lines.last().unwrap().answer;
         let given = match call {
-            Call::List { .. } => answer[1],
-            _ => answer[2],
+            Call::List { .. } => self.answer()[1],
+            // A refused table has no rows and leaves its output.
+            Call::Table { .. } => {
+                let (head, output) = self.answer().split_at(3);
+                assert!(head[1] == 0 && output.iter().all(|number| *number == FILL));
+                head[2]
+            }
+            _ => self.answer()[2],
         };
         assert_eq!(given, place, "{}", call.line());
+    }
+
+    /// The answer to the last line.
+    fn answer(&self) -> &[u64] {
+        let group = self.groups.last().expect("a group");
+        &group.lines.last().expect("a line").answer
+    }
+
+    /// Calls that run and have the same answer.
+    fn alike(&mut self, calls: &[Call]) {
+        for call in calls {
+            self.runs(call.clone());
+            assert_eq!(self.answer(), calls[0].fixed_answer().0);
+        }
     }
 
     /// A call whose number is stated: 0 for one that runs.
@@ -113,16 +133,28 @@ pub fn groups() -> Vec<Group> {
     month_water(&mut sheet);
     month_shares(&mut sheet);
     month_factors(&mut sheet);
+    month_sources(&mut sheet);
+    month_evapotranspiration(&mut sheet);
     list_rows(&mut sheet);
     list_output(&mut sheet);
     list_outside(&mut sheet);
     list_months(&mut sheet);
     list_weather(&mut sheet);
     list_drawn(&mut sheet);
+    list_sources(&mut sheet);
     spin_outside(&mut sheet);
     spin_years(&mut sheet);
     spin_places(&mut sheet);
     spin_drawn(&mut sheet);
+    spin_sources(&mut sheet);
+    table_forms(&mut sheet);
+    table_numbers(&mut sheet);
+    table_months(&mut sheet);
+    table_ends(&mut sheet);
+    table_rooms(&mut sheet);
+    table_order(&mut sheet);
+    table_long(&mut sheet);
+    table_drawn(&mut sheet);
     survival_numbers(&mut sheet);
     survival_ends(&mut sheet);
     sheet.groups
@@ -158,8 +190,8 @@ const STATE: StateNumbers = [
     234, 23, 1, 1_533, 44_852, 6_671, 258_576, 27_000, 5_000_000, 10, 12_345,
 ];
 /// Frost: nothing decays, so any pools are fixed.
-const FROST: EntryNumbers = [-60, 500, 300, 0, 61, 99];
-const MILD: EntryNumbers = [93, 520, 830, 1, 610, 990];
+const FROST: EntryNumbers = [-60, 500, 300, 0, 0, 61, 99];
+const MILD: EntryNumbers = [93, 520, 830, 0, 1, 610, 990];
 
 const CEILING: u64 = 1_000_000_000;
 const A_MONTH: u64 = 200_000_000;
@@ -321,27 +353,27 @@ fn month_known(sheet: &mut Sheet) {
     let hoosfield = [
         234, 23, 1, 153_300, 4_485_200, 667_100, 25_857_600, 2_700_000, 0, 0, 0,
     ];
-    let january = month(hoosfield, 1, [34, 740, 80, 0, 0, 0]);
+    let january = month(hoosfield, 1, [34, 740, 80, 0, 0, 0, 0]);
     sheet.runs(january);
     assert_eq!(
-        sheet.groups.last().unwrap().lines[0].answer[..8],
+        sheet.answer()[..8],
         [0, 113_937, 4_445_447, 665_104, 25_855_106, 2_700_000, 83_606, 0]
     );
     let empty = changed(hoosfield, &pools([0; 4]));
     // 61 g of plant: 36 and 25. 99 g of manure: 48, 50 and 1.
-    sheet.runs(month(empty, 1, [93, 740, 80, 0, 61, 0]));
-    sheet.runs(month(empty, 1, [93, 740, 80, 0, 0, 99]));
+    sheet.runs(month(empty, 1, [93, 740, 80, 0, 0, 61, 0]));
+    sheet.runs(month(empty, 1, [93, 740, 80, 0, 0, 0, 99]));
     // 27.50 mm and M: B 7585 and 2000 (the pools show B).
     let some = pools([100_000_003, 90_000_007, 80_000_000, 70_000_001]);
     for deficit in [56_925_000, deficit_limit(&hoosfield)] {
         let state = changed(changed(hoosfield, &some), &[(DEFICIT, deficit)]);
-        sheet.runs(fixed_pools(month(state, 1, [93, 0, 0, 1, 0, 0])));
+        sheet.runs(fixed_pools(month(state, 1, [93, 0, 0, 0, 1, 0, 0])));
     }
     // Active 1,000,000,000 with no additions runs; one gram added is 17.
     let full = changed(hoosfield, &pools([CEILING, 0, 0, 0]));
-    sheet.runs(month(full, 1, [-51, 740, 80, 0, 0, 0]));
-    sheet.refused(17, month(full, 1, [34, 740, 80, 0, 1, 0]));
-    sheet.refused(17, month(full, 1, [34, 740, 80, 0, 0, 1]));
+    sheet.runs(month(full, 1, [-51, 740, 80, 0, 0, 0, 0]));
+    sheet.refused(17, month(full, 1, [34, 740, 80, 0, 0, 1, 0]));
+    sheet.refused(17, month(full, 1, [34, 740, 80, 0, 0, 0, 1]));
 }
 
 /// 4 to 7 of the soil inside a lent state.
@@ -434,7 +466,7 @@ fn month_state(sheet: &mut Sheet) {
         10,
         frozen(&[full[0], full[1], full[2], full[3], (CO2, u64::MAX)]),
     );
-    let still = [-60, 0, 0, 0, 0, 0];
+    let still = [-60, 0, 0, 0, 0, 0, 0];
     for (months, co2, number) in [
         (0, 0, 0),
         (0, 1, 10),
@@ -485,10 +517,10 @@ fn month_turn(sheet: &mut Sheet) {
     }
 }
 
-/// 13 to 16 from both sides of each bound, and at the ends of i64.
+/// 13 to 16 and 19 from both sides of each bound, and at the ends of i64.
 fn month_entries(sheet: &mut Sheet) {
-    sheet.group("M: 13 to 16 on both sides of each bound, ends of i64");
-    let bounds: [(usize, u64, &[i64], &[i64]); 6] = [
+    sheet.group("M: 13 to 16 and 19 on both sides of each bound, ends of i64");
+    let bounds: [(usize, u64, &[i64], &[i64]); 7] = [
         (
             TEMPERATURE,
             13,
@@ -497,6 +529,7 @@ fn month_entries(sheet: &mut Sheet) {
         ),
         (RAIN, 14, &[0, 1, 19_999, 20_000], &[-1, 20_001]),
         (EVAPORATION, 14, &[0, 1, 19_999, 20_000], &[-1, 20_001]),
+        (SOURCE, 19, &[0, 1], &[-1, 2, 3, 10]),
         (COVER, 15, &[0, 1], &[-1, 2, 3, 10]),
         (
             PLANT,
@@ -580,7 +613,7 @@ fn month_ceiling(sheet: &mut Sheet) {
             };
             let state = changed(STATE, &pools(grams));
             let with = |temperature: i64, plant: i64, manure: i64| {
-                month(state, 11, [temperature, 500, 300, 1, plant, manure])
+                month(state, 11, [temperature, 500, 300, 0, 1, plant, manure])
             };
             sheet.runs(with(-60, plant, manure));
             // One gram more of one of them, in frost and in a heat that would make room.
@@ -595,7 +628,7 @@ fn month_ceiling(sheet: &mut Sheet) {
             // One gram more in the soil.
             if active < CEILING {
                 let more = changed(state, &[(POOLS + 2, state[POOLS + 2] + 1)]);
-                sheet.refused(17, month(more, 11, [500, 500, 300, 1, plant, manure]));
+                sheet.refused(17, month(more, 11, [500, 500, 300, 0, 1, plant, manure]));
             }
         }
     }
@@ -607,7 +640,7 @@ fn month_ceiling(sheet: &mut Sheet) {
 }
 
 /// Numbers of a month's refusals in checking order.
-const MONTH_REFUSALS: [u64; 12] = [4, 5, 6, 7, 10, 11, 12, 13, 14, 15, 16, 17];
+const MONTH_REFUSALS: [u64; 13] = [4, 5, 6, 7, 10, 11, 12, 13, 14, 19, 15, 16, 17];
 
 /// The base month with all these faults at once, each in the given one of three ways.
 fn faulty(faults: &[u64], way: usize) -> Call {
@@ -661,6 +694,9 @@ fn faulty(faults: &[u64], way: usize) -> Call {
             _ => entries[RAIN] = i64::MAX,
         }
     }
+    if with(19) {
+        entries[SOURCE] = [-1, 2, i64::MIN][way];
+    }
     if with(15) {
         entries[COVER] = [-1, 2, i64::MAX][way];
     }
@@ -674,24 +710,24 @@ fn faulty(faults: &[u64], way: usize) -> Call {
     month(state, number, entries)
 }
 
-/// Two faults at once, in every pair of numbers (the neighbours among them): the lower wins.
-/// Then every fault from one number up at once.
+/// Two faults at once, in every pair of numbers (the neighbours among them): the one that is asked
+/// first wins. Then every fault from one number on at once.
 fn month_pairs(sheet: &mut Sheet) {
     sheet.group(
-        "M: two faults at once in every pair of numbers, each in three ways; the lower wins",
+        "M: two faults at once in every pair of numbers, each in three ways; the first asked wins",
     );
-    for (index, lower) in MONTH_REFUSALS.iter().enumerate() {
-        for higher in &MONTH_REFUSALS[index + 1..] {
+    for (index, first) in MONTH_REFUSALS.iter().enumerate() {
+        for later in &MONTH_REFUSALS[index + 1..] {
             for way in 0..3 {
-                sheet.refused(*lower, faulty(&[*lower, *higher], way));
+                sheet.refused(*first, faulty(&[*first, *later], way));
             }
         }
     }
-    sheet.group("M: all faults from a number up at once; each alone");
-    for (index, lower) in MONTH_REFUSALS.iter().enumerate() {
+    sheet.group("M: all faults from a number on at once; each alone");
+    for (index, first) in MONTH_REFUSALS.iter().enumerate() {
         for way in 0..3 {
-            sheet.refused(*lower, faulty(&MONTH_REFUSALS[index..], way));
-            sheet.refused(*lower, faulty(&[*lower], way));
+            sheet.refused(*first, faulty(&MONTH_REFUSALS[index..], way));
+            sheet.refused(*first, faulty(&[*first], way));
         }
     }
 }
@@ -717,6 +753,7 @@ fn month_unreached(sheet: &mut Sheet) {
             draw.between(-50, 500),
             draw.between(0, 600),
             draw.between(0, 1500),
+            0,
             (round / 3 % 2) as i64,
             draw.between(0, 40_000_000),
             draw.between(0, 40_000_000),
@@ -742,19 +779,23 @@ fn month_unreached(sheet: &mut Sheet) {
     }
 }
 
+/// A month on this soil with this deficit and large pools, which show B.
+fn wetted(clay: u64, depth: u64, deficit: u64, entries: EntryNumbers) -> Call {
+    let big = pools([100_000_000, 90_000_000, 80_000_000, 70_000_000]);
+    let own = [(CLAY, clay), (DEPTH, depth), (DEFICIT, deficit)];
+    fixed_pools(month(changed(changed(STATE, &big), &own), 11, entries))
+}
+
 /// Step 3 around its bounds: the cap under a crop and on bare soil, D as it was before the month
 /// on bare soil that is drier than its limit, 0.444 of M from both sides, B's exact half.
 fn month_water(sheet: &mut Sheet) {
     sheet.group("M: deficits at 0, the bare limit, 0.444 of M and M from both sides; B's half");
     let mut draw = Draw::new(47);
-    let big = pools([100_000_000, 90_000_000, 80_000_000, 70_000_000]);
     let mut water = |sheet: &mut Sheet, clay: u64, depth: u64, deficit: u64, rest: [i64; 3]| {
-        let mut state = changed(changed(STATE, &big), &[(CLAY, clay), (DEPTH, depth)]);
-        state[DEFICIT] = deficit;
         let [rain, evaporation, cover] = rest;
         let temperature = draw.between(50, 300);
-        let entries = [temperature, rain, evaporation, cover, 0, 0];
-        sheet.runs(fixed_pools(month(state, 11, entries)));
+        let entries = [temperature, rain, evaporation, 0, cover, 0, 0];
+        sheet.runs(wetted(clay, depth, deficit, entries));
     };
     for (clay, depth) in [(0, 1), (1000, 100), (234, 23), (650, 77)] {
         let limit = deficit_limit(&changed(STATE, &[(CLAY, clay), (DEPTH, depth)]));
@@ -806,14 +847,14 @@ fn month_shares(sheet: &mut Sheet) {
             (99_999_999, 99_999_999),
             (100_000_000, 100_000_000),
         ] {
-            sheet.runs(month(empty, 11, [93, 500, 300, 0, plant, manure]));
+            sheet.runs(month(empty, 11, [93, 500, 300, 0, 0, plant, manure]));
         }
     }
     // Tiny pools in great heat: losses of a few grams, formed and its 46 hundredths rounded down.
     for grams in [1, 2, 3, 5, 9, 14, 22, 40] {
         let state = changed(STATE, &pools([grams, 40 - grams / 2, grams * 3, grams * 7]));
-        sheet.runs(month(state, 11, [500, 500, 300, 0, 0, 0]));
-        sheet.runs(month(state, 11, [500, 0, 20_000, 1, grams as i64, 3]));
+        sheet.runs(month(state, 11, [500, 500, 300, 0, 0, 0, 0]));
+        sheet.runs(month(state, 11, [500, 0, 20_000, 0, 1, grams as i64, 3]));
     }
 }
 
@@ -879,35 +920,134 @@ fn month_factors(sheet: &mut Sheet) {
             657 => 658,
             other => other,
         };
-        loop {
-            let mut state = STATE;
-            state[CLAY] = clay;
-            state[DEPTH] = 1 + draw.below(100);
-            state[KIND] = 1 + draw.below(3);
-            state[POOLS] = 90_000_000 + draw.below(60_000_000);
-            for pool in 1..4 {
-                state[POOLS + pool] = draw.below(100_000_000);
-            }
-            state[INERT] = draw.below(100_000);
-            let limit = deficit_limit(&state);
-            state[DEFICIT] = draw.below(4).min(1) * draw.below(limit + 1);
-            state[MONTHS] = draw.below(120_000);
-            state[CO2] = draw.below(1_000_000);
-            let entries = [
-                temperature,
-                draw.between(0, 900),
-                draw.between(0, 1500),
-                draw.between(0, 1),
-                draw.between(0, 1) * draw.between(0, 9_000_000),
-                draw.between(0, 1) * draw.between(0, 9_000_000),
-            ];
-            let call = fixed_pools(month(state, state[MONTHS] + 1, entries));
-            if shows_factors(&call) {
-                sheet.runs(call);
-                break;
+        sheet.runs(drawn_month(&mut draw, clay, temperature, 0));
+    }
+}
+
+/// A month with this clay, temperature and source, drawn until A, B or R one off would show.
+fn drawn_month(draw: &mut Draw, clay: u64, temperature: i64, source: i64) -> Call {
+    loop {
+        let mut state = STATE;
+        state[CLAY] = clay;
+        state[DEPTH] = 1 + draw.below(100);
+        state[KIND] = 1 + draw.below(3);
+        state[POOLS] = 90_000_000 + draw.below(60_000_000);
+        for pool in 1..4 {
+            state[POOLS + pool] = draw.below(100_000_000);
+        }
+        state[INERT] = draw.below(100_000);
+        let limit = deficit_limit(&state);
+        state[DEFICIT] = draw.below(4).min(1) * draw.below(limit + 1);
+        state[MONTHS] = draw.below(120_000);
+        state[CO2] = draw.below(1_000_000);
+        let entries = [
+            temperature,
+            draw.between(0, 900),
+            draw.between(0, 1500),
+            source,
+            draw.between(0, 1),
+            draw.between(0, 1) * draw.between(0, 9_000_000),
+            draw.between(0, 1) * draw.between(0, 9_000_000),
+        ];
+        let call = fixed_pools(month(state, state[MONTHS] + 1, entries));
+        if shows_factors(&call) {
+            return call;
+        }
+    }
+}
+
+/// Evapotranspiration has the bounds of an open pan; 19 comes after 14 and before 15.
+fn month_sources(sheet: &mut Sheet) {
+    sheet.group("M: evapotranspiration has the bounds of the open pan; 19 after 14, before 15");
+    for (number, place, good, bad) in [
+        (13, TEMPERATURE, [-400, 500], [-401, 501]),
+        (14, RAIN, [0, 20_000], [-1, 20_001]),
+        (14, EVAPORATION, [0, 20_000], [-1, 20_001]),
+        (15, COVER, [0, 1], [-1, 2]),
+        (16, PLANT, [0, 100_000_000], [-1, 100_000_001]),
+        (16, MANURE, [0, 100_000_000], [-1, 100_000_001]),
+    ] {
+        for value in good {
+            sheet.runs(entered(&[(SOURCE, 1), (place, value)]));
+        }
+        for value in bad {
+            sheet.refused(number, entered(&[(SOURCE, 1), (place, value)]));
+            // Beside a faulty source.
+            let first = if place < SOURCE { number } else { 19 };
+            for source in [-1, 2, i64::MIN, i64::MAX] {
+                sheet.refused(first, entered(&[(SOURCE, source), (place, value)]));
             }
         }
     }
+    // 19 before 17, 17 whatever the source.
+    let full = changed(STATE, &pools([CEILING, 0, 0, 0]));
+    for (source, number) in [(0, 17), (1, 17), (2, 19), (-1, 19)] {
+        let entries = changed(FROST, &[(SOURCE, source)]);
+        sheet.refused(number, month(full, 11, entries));
+    }
+}
+
+/// Step 3 by evapotranspiration: its deficits by hand, against the pan's, and drawn months.
+fn month_evapotranspiration(sheet: &mut Sheet) {
+    sheet.group("M: evapotranspiration dries 207,000 parts a tenth, an open pan 155,250");
+    // Clay 0 and depth 100: M is 180,000,000, the bare limit 100,000,000.
+    for (deficit, [rain, evaporation, source, cover], after) in [
+        (0, [0, 1, 0, 1], 155_250),
+        (0, [0, 1, 1, 1], 207_000),
+        (0, [0, 1, 1, 0], 207_000),
+        (0, [0, 100, 0, 1], 15_525_000),
+        (0, [0, 100, 1, 1], 20_700_000),
+        // Rain against it, with and without the 0.75.
+        (0, [3, 4, 0, 1], 0),
+        (0, [3, 4, 1, 1], 207_000),
+        (0, [3, 3, 1, 1], 0),
+        (5_000_000, [7, 7, 1, 0], 5_000_000),
+        (5_000_000, [7, 7, 0, 0], 4_637_750),
+        (5_000_000, [30, 6, 1, 0], 32_000),
+        (5_000_000, [31, 6, 1, 0], 0),
+        (0, [20_000, 20_000, 1, 1], 0),
+        (180_000_000, [20_000, 20_000, 1, 1], 180_000_000),
+        (180_000_000, [20_000, 20_000, 0, 1], 0),
+        (180_000_000, [20_000, 0, 1, 1], 0),
+        (180_000_000, [1, 0, 1, 0], 179_793_000),
+        // The caps of bare soil and of a crop, from both sides.
+        (0, [0, 483, 1, 0], 99_981_000),
+        (0, [0, 484, 1, 0], 100_000_000),
+        (0, [0, 484, 1, 1], 100_188_000),
+        (0, [0, 869, 1, 1], 179_883_000),
+        (0, [0, 870, 1, 1], 180_000_000),
+        (0, [0, 20_000, 1, 0], 100_000_000),
+        (0, [0, 20_000, 1, 1], 180_000_000),
+        (150_000_000, [0, 20_000, 1, 0], 150_000_000),
+        (150_000_000, [0, 20_000, 1, 1], 180_000_000),
+    ] {
+        let entries = [93, rain, evaporation, source, cover, 0, 0];
+        sheet.runs(wetted(0, 100, deficit, entries));
+        assert_eq!(sheet.answer()[OUTPUT_NUMBERS], after, "{entries:?}");
+    }
+    sheet.group("M: 4 tenths of the open pan and 3 of evapotranspiration: the same row and state");
+    let mut draw = Draw::new(71);
+    for round in 0..30 {
+        let threes = [1, 2, 250, 5_000].get(round).copied();
+        let threes = threes.unwrap_or_else(|| draw.between(0, 600));
+        let mut pan = drawn_entries(&mut draw);
+        pan[EVAPORATION] = 4 * threes;
+        let office = changed(pan, &[(EVAPORATION, 3 * threes), (SOURCE, 1)]);
+        let (clay, depth) = (draw.below(1001), 1 + draw.below(100));
+        sheet.alike(&[pan, office].map(|entries| wetted(clay, depth, 0, entries)));
+    }
+    sheet.group("M: drawn months by evapotranspiration; A, B or R one off would show");
+    for _ in 0..60 {
+        let (clay, temperature) = (draw.below(1001), draw.between(-50, 500));
+        sheet.runs(drawn_month(&mut draw, clay, temperature, 1));
+    }
+}
+
+/// Entries of an open pan's month that nothing refuses.
+fn drawn_entries(draw: &mut Draw) -> EntryNumbers {
+    let sky = drawn_weather(draw, 1);
+    let field = drawn_land(draw, 1, 60_000);
+    std::array::from_fn(|place| [&sky[..], &field].concat()[place])
 }
 
 // ---- L: a list of months ----
@@ -928,18 +1068,20 @@ fn fresh() -> StateNumbers {
     state
 }
 
-fn rows(row: [i64; 3], count: usize) -> Vec<i64> {
+fn rows<const N: usize>(row: [i64; N], count: usize) -> Vec<i64> {
     row.repeat(count)
 }
 
-const COLD: [i64; 3] = [-60, 0, 0];
-const MAY: [i64; 3] = [110, 520, 830];
-const BARE: [i64; 3] = [0, 0, 0];
-const CROP: [i64; 3] = [1, 610, 0];
+const COLD: WeatherRow = [-60, 0, 0, 0];
+const MAY: WeatherRow = [110, 520, 830, 0];
+const BARE: LandRow = [0, 0, 0];
+const CROP: LandRow = [1, 610, 0];
 
-/// 3: rows 0, 1, 2, 3, 1200, 1201 of either list, numbers not in threes.
+/// 3: rows 0, 1, 2, 3, 1200, 1201 of either list, weather not in fours, land not in threes.
 fn list_rows(sheet: &mut Sheet) {
-    sheet.group("L: rows 0, 1, 2, 3, 1200, 1201 of weather and of land, numbers not in threes");
+    sheet.group(
+        "L: rows 0, 1, 2, 3, 1200, 1201 of either list; weather not in fours, land not in threes",
+    );
     let state = fresh();
     for count in [1, 2, 3] {
         for other in [1, 2, 3] {
@@ -953,26 +1095,31 @@ fn list_rows(sheet: &mut Sheet) {
     }
     let none: [i64; 0] = [];
     sheet.refused_at(3, 0, list(&none, &none, 0, state));
-    for short in [0, 1, 2, 4, 5, 7] {
-        sheet.refused_at(3, 0, list(&rows(MAY, 3)[..short], &CROP, 7, state));
-        sheet.refused_at(3, 0, list(&MAY, &rows(CROP, 3)[..short], 21, state));
+    // Threes that are no fours, and fours that are no threes, among them.
+    for count in [0, 1, 2, 3, 5, 6, 7, 9, 10, 11, 15, 18] {
+        sheet.refused_at(3, 0, list(&rows(MAY, 5)[..count], &CROP, 7, state));
+    }
+    for count in [0, 1, 2, 4, 5, 7, 8, 10, 16] {
+        sheet.refused_at(3, 0, list(&MAY, &rows(CROP, 6)[..count], 42, state));
     }
     // 1,200 rows of each: tiny pools keep it fixed. Weather of 1,200 rows for one month.
     let tiny = changed(fresh(), &pools([90, 80, 70, 60]));
     let year = [
-        [34, 740, 80],
-        [110, 520, 830],
-        [160, 340, 1030],
-        [-60, 580, 690],
+        [34, 740, 80, 0],
+        [110, 520, 830, 0],
+        [160, 340, 1030, 0],
+        [-60, 580, 690, 0],
     ]
     .concat();
     let field = [[0, 0, 0], [1, 30, 0], [1, 0, 9], [0, 0, 0]].concat();
     sheet.runs(list(&year, &field.repeat(300), 8_400, tiny));
     sheet.runs(list(&rows(COLD, 1_200), &CROP, 7, tiny));
     sheet.runs(list(&year.repeat(300), &field.repeat(300), 8_401, tiny));
-    // 1,201 rows, and one or two numbers beside 1,200 rows.
-    for count in [3_603, 3_601, 3_599] {
+    // 1,201 rows, and one number beside 1,200 rows.
+    for count in [4_804, 4_801, 4_799] {
         sheet.refused_at(3, 0, list(&rows(COLD, 1_201)[..count], &CROP, 7, tiny));
+    }
+    for count in [3_603, 3_601, 3_599] {
         sheet.refused_at(3, 0, list(&COLD, &rows(BARE, 1_201)[..count], 8_407, tiny));
     }
 }
@@ -1024,12 +1171,12 @@ fn list_outside(sheet: &mut Sheet) {
         let state = changed(STATE, changes);
         sheet.refused_at(number, 0, list(&MAY, &land, 14, state));
         // Against a month's fault: the state comes first.
-        sheet.refused_at(number, 0, list(&[501, -1, -1], &[2, -1, -1], 7, state));
+        sheet.refused_at(number, 0, list(&[501, -1, -1, 2], &[2, -1, -1], 7, state));
         // Against 8: 4 to 7 come first, 10 doesn't.
         let first = if number == 10 { 8 } else { number };
         sheet.refused_at(first, 0, list(&MAY, &land, 13, state));
         // Against 3: that comes first.
-        sheet.refused_at(3, 0, list(&MAY[..2], &land, 14, state));
+        sheet.refused_at(3, 0, list(&MAY[..3], &land, 14, state));
     }
     sheet.refused_at(3, 0, list(&MAY, &land[..5], 0, STATE));
     // D at M and CO2 at its bound run.
@@ -1045,36 +1192,42 @@ fn list_months(sheet: &mut Sheet) {
     sheet.group("L: months refused at 1, in the middle, at the end; 12 at 1 and later");
     let weather = rows(MAY, 5);
     let land = rows(CROP, 5);
-    let faults: [(u64, Option<[i64; 3]>, Option<[i64; 3]>); 16] = [
-        (13, Some([-401, 0, 0]), None),
-        (13, Some([501, 0, 0]), None),
-        (13, Some([i64::MIN, i64::MIN, i64::MIN]), None),
-        (14, Some([93, -1, 0]), None),
-        (14, Some([93, 20_001, 0]), None),
-        (14, Some([93, 0, -1]), None),
-        (14, Some([93, 0, 20_001]), None),
-        (14, Some([93, i64::MIN, i64::MAX]), None),
+    let faults: [(u64, Option<WeatherRow>, Option<LandRow>); 22] = [
+        (13, Some([-401, 0, 0, 0]), None),
+        (13, Some([501, 0, 0, 0]), None),
+        (13, Some([i64::MIN; 4]), None),
+        (14, Some([93, -1, 0, 0]), None),
+        (14, Some([93, 20_001, 0, 0]), None),
+        (14, Some([93, 0, -1, 0]), None),
+        (14, Some([93, 0, 20_001, 0]), None),
+        (14, Some([93, i64::MIN, i64::MAX, 0]), None),
+        (14, Some([93, 0, 20_001, 2]), Some([2, -1, -1])),
+        (19, Some([93, 0, 0, -1]), None),
+        (19, Some([93, 0, 0, 2]), None),
+        (19, Some([93, 0, 0, i64::MIN]), None),
+        (19, Some([93, 0, 0, i64::MAX]), Some([2, 0, 0])),
+        (19, Some([93, 0, 0, 2]), Some([-1, -1, -1])),
         (15, None, Some([-1, 0, 0])),
         (15, None, Some([2, 0, 0])),
         (16, None, Some([0, -1, 0])),
         (16, None, Some([1, 100_000_001, 0])),
         (16, None, Some([0, 0, i64::MIN])),
         (16, None, Some([0, i64::MAX, i64::MAX])),
-        (13, Some([501, -1, 0]), Some([2, -1, -1])),
+        (13, Some([501, -1, 0, 2]), Some([2, -1, -1])),
         (15, None, Some([2, -1, -1])),
     ];
     for (index, (number, sky, field)) in faults.iter().enumerate() {
         for place in [1, 3, 5] {
             let (mut weather, mut land) = (weather.clone(), land.clone());
             if let Some(row) = sky {
-                weather[place * 3 - 3..place * 3].copy_from_slice(row);
+                weather[place * 4 - 4..place * 4].copy_from_slice(row);
             }
             if let Some(row) = field {
                 land[place * 3 - 3..place * 3].copy_from_slice(row);
             }
             // A lower number in a later month doesn't matter.
             if index % 2 == 1 && place < 5 {
-                weather[12..15].copy_from_slice(&[-401, -1, -1]);
+                weather[16..20].copy_from_slice(&[-401, -1, -1, -1]);
             }
             let output = 35 + index % 3;
             sheet.refused_at(*number, place as u64, list(&weather, &land, output, STATE));
@@ -1125,39 +1278,36 @@ fn list_months(sheet: &mut Sheet) {
 fn list_weather(sheet: &mut Sheet) {
     sheet.group("L: weather wraps round; faulty weather rows that no month uses don't refuse");
     let skies = [
-        [34, 740, 80],
-        [110, 520, 830],
-        [160, 340, 1030],
-        [158, 550, 910],
-        [62, 750, 160],
+        [34, 740, 80, 0],
+        [110, 520, 830, 0],
+        [160, 340, 1030, 0],
+        [158, 550, 910, 0],
+        [62, 750, 160, 0],
     ]
     .concat();
     for count in 1..=5 {
         for months in [1, 2, 4, 5, 6, 11] {
             sheet.runs(list(
-                &skies[..count * 3],
+                &skies[..count * 4],
                 &rows(CROP, months),
                 months * 7,
                 STATE,
             ));
         }
     }
-    for bad in [
-        [501, 0, 0],
-        [-401, 0, 0],
-        [0, -1, 0],
-        [0, 0, 20_001],
-        [i64::MIN, i64::MAX, i64::MIN],
+    for (number, bad) in [
+        (13, [501, 0, 0, 0]),
+        (13, [-401, 0, 0, 0]),
+        (14, [0, -1, 0, 0]),
+        (14, [0, 0, 20_001, 0]),
+        (13, [i64::MIN, i64::MAX, i64::MIN, i64::MIN]),
+        (19, [0, 0, 0, 2]),
+        (19, [0, 0, 0, -1]),
     ] {
         for good in 1..=3 {
-            let weather = [&skies[..good * 3], &bad, &bad].concat();
+            let weather = [&skies[..good * 4], &bad, &bad].concat();
             // As many months as good rows, then one more.
             sheet.runs(list(&weather, &rows(CROP, good), good * 7, STATE));
-            let number = if (-400..=500).contains(&bad[0]) {
-                14
-            } else {
-                13
-            };
             let land = rows(CROP, good + 1);
             let place = good as u64 + 1;
             sheet.refused_at(number, place, list(&weather, &land, good * 7 + 7, STATE));
@@ -1168,16 +1318,61 @@ fn list_weather(sheet: &mut Sheet) {
 /// Lists within the bounds, drawn until they are fixed.
 fn list_drawn(sheet: &mut Sheet) {
     sheet.group("L: drawn lists of up to 40 months, all kinds, with rest in the output");
-    let mut draw = Draw::new(59);
+    drawn_lists(sheet, 59, 24, |weather| weather);
+}
+
+/// So many drawn lists that are fixed, their weather as `sky` makes it.
+fn drawn_lists(sheet: &mut Sheet, seed: u64, count: usize, sky: fn(Vec<i64>) -> Vec<i64>) {
+    let mut draw = Draw::new(seed);
     let mut made = 0;
-    while made < 24 {
+    while made < count {
         let mut state = drawn_state(&mut draw, 900_000);
         state[MONTHS] = draw.below(119_900);
-        let weather = drawn_weather(&mut draw, 1 + made % 13);
+        let weather = sky(drawn_weather(&mut draw, 1 + made % 13));
         let months = 1 + draw.below(40) as usize;
         let land = drawn_land(&mut draw, months, 60_000);
         let output = months * 7 + draw.below(9) as usize;
         made += usize::from(sheet.runs_if_fixed(list(&weather, &land, output, state)));
+    }
+}
+
+/// These weather rows, the first of every two by evapotranspiration.
+fn by_turns(mut weather: Vec<i64>) -> Vec<i64> {
+    for rows in weather.chunks_mut(2 * WEATHER_NUMBERS) {
+        rows[SOURCE] = 1;
+    }
+    weather
+}
+
+/// Weather by the pan, by evapotranspiration and by turns that all dries the same: 3 tenths stand
+/// for 4 of the pan.
+fn alike_skies(count: usize) -> [Vec<i64>; 3] {
+    let pan = [
+        [34, 740, 80, 0],
+        [110, 520, 832, 0],
+        [160, 340, 1_032, 0],
+        [62, 750, 160, 0],
+    ];
+    [[0, 0], [1, 1], [0, 1]].map(|sources| {
+        let skies = (0..count).map(|index| {
+            let [temperature, rain, evaporation, _] = pan[index % 4];
+            match sources[index % 2] {
+                0 => [temperature, rain, evaporation, 0],
+                _ => [temperature, rain, evaporation / 4 * 3, 1],
+            }
+        });
+        skies.flatten().collect()
+    })
+}
+
+/// Both sources in one list.
+fn list_sources(sheet: &mut Sheet) {
+    sheet.group("L: drawn lists with both sources, wrapping round");
+    drawn_lists(sheet, 73, 16, by_turns);
+    sheet.group("L: 4 tenths of the open pan and 3 of evapotranspiration: the same rows and state");
+    for count in 1..=4 {
+        let land = [CROP, BARE, CROP, BARE, BARE, CROP].concat();
+        sheet.alike(&alike_skies(count).map(|weather| list(&weather, &land, 43, STATE)));
     }
 }
 
@@ -1201,6 +1396,7 @@ fn drawn_weather(draw: &mut Draw, count: usize) -> Vec<i64> {
                 draw.between(-90, 320),
                 draw.between(0, 1500),
                 draw.between(0, 1800),
+                0,
             ]
         })
         .collect()
@@ -1243,13 +1439,17 @@ fn first_month(plant: i64) -> Vec<i64> {
 /// Faults outside the months: 3, 4 to 7, 9, 10 in this order, place 0.
 fn spin_outside(sheet: &mut Sheet) {
     sheet.group(
-        "S: 36 numbers or not, state faults, years 0 and 10,001; the order 3, 4 to 7, 9, 10",
+        "S: 48 and 36 numbers or not, state faults, years 0 and 10,001; the order 3, 4 to 7, 9, 10",
     );
     let (weather, land) = (rows(COLD, 12), rows(BARE, 12));
-    for count in [0, 3, 12, 33, 35, 37, 39, 72] {
+    for count in [0, 4, 12, 36, 44, 47, 49, 52, 96] {
         sheet.refused_at(3, 0, spin(&rows(COLD, 24)[..count], &land, 5, STATE));
+    }
+    for count in [0, 3, 12, 33, 35, 37, 39, 48, 72] {
         sheet.refused_at(3, 0, spin(&weather, &rows(BARE, 24)[..count], 5, STATE));
     }
+    // Three numbers a weather row and four a land row.
+    sheet.refused_at(3, 0, spin(&rows(COLD, 9), &rows(BARE, 16), 5, STATE));
     for years in [0, 10_001, 10_002, u64::MAX, 1 << 63, (1 << 32) + 1] {
         sheet.refused_at(9, 0, spin(&weather, &land, years, STATE));
     }
@@ -1287,8 +1487,7 @@ fn spin_years(sheet: &mut Sheet) {
     let weather = rows(COLD, 12);
     let settled = |sheet: &mut Sheet, is: u64, years: u64, call: Call| {
         sheet.runs(call);
-        let answer = &sheet.groups.last().unwrap().lines.last().unwrap().answer;
-        assert_eq!(answer[1..3], [is, years]);
+        assert_eq!(sheet.answer()[1..3], [is, years]);
     };
     for years in [1, 2, 3, 10_000] {
         // Nothing changes, and 1,000 g more: settled after one year.
@@ -1327,7 +1526,7 @@ fn spin_years(sheet: &mut Sheet) {
     settled(sheet, 0, 9, spin(&weather, &more, 9, STATE));
     // One warm month decays, eleven are frozen: the year's fall is its CO2 less the plant, which
     // comes after decay. Falls of 1,000 and 1,001.
-    let warm = [&[200, 500, 300], &weather[3..]].concat();
+    let warm = [&[200, 500, 300, 0], &weather[4..]].concat();
     for seed in 0..3u64 {
         let state = changed(fresh(), &pools([9_000 + seed * 777, 20_000, 3_000, 40_000]));
         let (answer, _) = spin(&warm, &first_month(0), 1, state).fixed_answer();
@@ -1369,10 +1568,17 @@ fn spin_places(sheet: &mut Sheet) {
     let weather = rows(COLD, 12);
     // The earliest faulty month of the year, at places 1, 5 and 12.
     for place in [1, 5, 12] {
-        let row = place * 3 - 3;
-        for (number, at, value) in [(13, 0, 501), (13, 0, -401), (14, 1, -1), (14, 2, 20_001)] {
+        for (number, at, value) in [
+            (13, TEMPERATURE, 501),
+            (13, TEMPERATURE, -401),
+            (14, RAIN, -1),
+            (14, EVAPORATION, 20_001),
+            (19, SOURCE, 2),
+            (19, SOURCE, -1),
+            (19, SOURCE, i64::MAX),
+        ] {
             let mut weather = weather.clone();
-            weather[row + at] = value;
+            weather[(place - 1) * WEATHER_NUMBERS + at] = value;
             sheet.refused_at(
                 number,
                 place as u64,
@@ -1386,7 +1592,7 @@ fn spin_places(sheet: &mut Sheet) {
             (16, 2, i64::MAX),
         ] {
             let mut land = rows(CROP, 12);
-            land[row + at] = value;
+            land[(place - 1) * LAND_NUMBERS + at] = value;
             sheet.refused_at(number, place as u64, spin(&weather, &land, 10, STATE));
         }
     }
@@ -1434,12 +1640,17 @@ fn spin_places(sheet: &mut Sheet) {
 /// Spin-ups with decay, drawn until they are fixed: settled in the first and in later years, and not.
 fn spin_drawn(sheet: &mut Sheet) {
     sheet.group("S: drawn spin-ups with decay, settled in the first or a later year, or unsettled");
-    let mut draw = Draw::new(61);
+    drawn_spin_ups(sheet, 61, 10, |weather| weather);
+}
+
+/// So many drawn spin-ups of each of the three sorts, their weather as `sky` makes it.
+fn drawn_spin_ups(sheet: &mut Sheet, seed: u64, each: usize, sky: fn(Vec<i64>) -> Vec<i64>) {
+    let mut draw = Draw::new(seed);
     let mut made = [0; 3];
-    while made.iter().sum::<usize>() < 30 {
+    while made.iter().sum::<usize>() < 3 * each {
         let mut state = drawn_state(&mut draw, 150_000);
         state[MONTHS] = draw.below(100_000);
-        let weather = drawn_weather(&mut draw, 12);
+        let weather = sky(drawn_weather(&mut draw, 12));
         let land = drawn_land(&mut draw, 12, 3_000);
         let call = spin(&weather, &land, 1 + draw.below(9), state);
         let (answer, fixed) = call.fixed_answer();
@@ -1448,10 +1659,504 @@ fn spin_drawn(sheet: &mut Sheet) {
             (1, _) => 1,
             _ => 2,
         };
-        if fixed && made[sort] < 10 {
+        if fixed && made[sort] < each {
             made[sort] += 1;
             sheet.put(call, answer);
         }
+    }
+}
+
+/// Both sources in one spin-up.
+fn spin_sources(sheet: &mut Sheet) {
+    sheet.group("S: drawn spin-ups with both sources");
+    drawn_spin_ups(sheet, 79, 4, by_turns);
+    sheet
+        .group("S: 4 tenths of the open pan and 3 of evapotranspiration: the same years and state");
+    let tiny = changed(fresh(), &pools([900, 800, 700, 600]));
+    for plant in [0, 400, 3_000] {
+        let land = first_month(plant);
+        sheet.alike(&alike_skies(12).map(|weather| spin(&weather, &land, 3, tiny)));
+    }
+}
+
+// ---- T: a weather office's table ----
+
+fn table(text: impl AsRef<[u8]>, room: usize) -> Call {
+    Call::Table {
+        room,
+        table: text.as_ref().to_vec(),
+    }
+}
+
+/// A table with just the room that its lines want.
+fn whole(text: impl AsRef<[u8]>) -> Call {
+    let lines = table::lines(text.as_ref()).len();
+    table(text, lines * WEATHER_NUMBERS)
+}
+
+/// A table that is read to just these rows.
+fn reads(sheet: &mut Sheet, text: &str, room: usize, rows: &[[i64; 3]]) {
+    sheet.runs(table(text, room));
+    let mut wanted = vec![0, rows.len() as i64, 0];
+    for [temperature, rain, evaporation] in rows {
+        wanted.extend([*temperature, *rain, *evaporation, 1]);
+    }
+    wanted.resize(3 + room, FILL as i64);
+    let given: Vec<i64> = sheet.answer().iter().map(|number| *number as i64).collect();
+    assert_eq!(given, wanted, "{text}");
+}
+
+/// A table of so many lines that nothing refuses, the numbers of each by its month.
+fn good_lines(count: usize) -> String {
+    (1..=count)
+        .map(|month| {
+            let step = month as i64;
+            table::line(month, [7 * step % 900 - 400, 37 * step, 11 * step])
+        })
+        .collect()
+}
+
+/// That table with one line replaced.
+fn with_line(count: usize, place: usize, line: &str) -> String {
+    let good = good_lines(count);
+    let mut lines: Vec<&str> = good.split_inclusive('\n').collect();
+    lines[place - 1] = line;
+    lines.concat()
+}
+
+/// Line 1 of a table with this text in the given one of its four fields.
+fn with_field(field: usize, text: &[u8]) -> Vec<u8> {
+    let mut fields: [&[u8]; 4] = [b"1", b"1.0", b"2.0", b"3.0"];
+    fields[field] = text;
+    [&fields.join(&b';')[..], b"\n"].concat()
+}
+
+/// Each form of a number in each field: what is read, and what is 18.
+fn table_forms(sheet: &mut Sheet) {
+    sheet
+        .group("T: a dot and one digit, a minus for a temperature below 0; every other form is 18");
+    let good = [
+        ("0.0", 0),
+        ("0.1", 1),
+        ("0.5", 5),
+        ("0.9", 9),
+        ("1.0", 10),
+        ("9.9", 99),
+        ("10.0", 100),
+        ("12.3", 123),
+        ("45.6", 456),
+        ("49.8", 498),
+        ("20.7", 207),
+    ];
+    let base = [10, 20, 30];
+    for (text, tenths) in good {
+        for field in 1..4 {
+            let line = String::from_utf8(with_field(field, text.as_bytes())).expect("ASCII");
+            reads(sheet, &line, 4, &[changed(base, &[(field - 1, tenths)])]);
+        }
+        // With a minus: a temperature, unless it is 0.
+        let line = format!("1;-{text};2.0;3.0\n");
+        match tenths {
+            0 => sheet.refused_at(18, 1, whole(line)),
+            1..=400 => reads(sheet, &line, 4, &[[-tenths, 20, 30]]),
+            _ => sheet.refused_at(13, 1, whole(line)),
+        }
+        for line in [
+            format!("1;1.0;-{text};3.0\n"),
+            format!("1;1.0;2.0;-{text}\n"),
+        ] {
+            sheet.refused_at(18, 1, whole(line));
+        }
+    }
+    let bad: [&[u8]; 52] = [
+        b"", b"5", b"5.", b".5", b".", b"-", b"-.", b"-.5", b"-5", b"-5.", b"05.0", b"00.0",
+        b"00.5", b"-05.0", b"-00.5", b"1.25", b"1.00", b"1.250", b"-1.25", b"+1.0", b"+0.0",
+        b"--1.0", b"-+1.0", b"- 1.0", b"1.-5", b"1-.0", b"1.0-", b"1,0", b"1..0", b"1.0.0",
+        b".1.0", b"1.x", b"x.0", b"1e1.0", b"0x1.0", b" 1.0", b"1.0 ", b"1 .0", b"1. 0", b"1 0.0",
+        b"\t1.0", b"1.0\t", b"\"1.0\"", // The bytes beside the digits and the dot.
+        b"1./", b"1.:", b"/.0", b"1:.0", b"1/0",
+        // NUL and bytes above 127; 0xb1 is a 1 with its top bit set.
+        b"1.0\0", b"\0", b"\xb1.0", b"1.\xb0",
+    ];
+    for text in bad {
+        for field in 1..4 {
+            sheet.refused_at(18, 1, whole(with_field(field, text)));
+        }
+    }
+
+    sheet.group("T: lines of another form: fields, blanks, ends, heads, CR LF, decimal commas");
+    for text in [
+        &b""[..],
+        b";",
+        b";;;",
+        b"1",
+        b"1;1.0",
+        b"1;1.0;2.0",
+        b"1;1.0;2.0;",
+        b"1;1.0;2.0;3.0;",
+        b";1;1.0;2.0;3.0",
+        b"1;1.0;2.0;3.0;4.0",
+        b"1;1.0;2.0;3.0;1",
+        b"1;1.0;2.0;3.0;;",
+        b"1;;1.0;2.0;3.0",
+        b"1.0;2.0;3.0",
+        b"1 1.0 2.0 3.0",
+        b"1,1.0,2.0,3.0",
+        b"1\t1.0\t2.0\t3.0",
+        b"1:1.0:2.0:3.0",
+        b"1;1,0;2,0;3,0",
+        b"1;1.0;2,0;3.0",
+        b"1;1.0;2.0;3.0\r",
+        b"\r",
+        b" 1;1.0;2.0;3.0",
+        b"1;1.0;2.0;3.0 ",
+        b"1; 1.0; 2.0; 3.0",
+        b"1 ;1.0 ;2.0 ;3.0",
+        b" ",
+        b"month;temperature;rain;evapotranspiration",
+        b"WEATHER 1",
+        b"1 10 20",
+        b"# 1;1.0;2.0;3.0",
+        b"1;1.0;2.0;3.0#",
+        b"\xef\xbb\xbf1;1.0;2.0;3.0",
+        b"1;1.0;2.0;3.0\0",
+        b"\0",
+        b"\xff\xfe",
+        b"1\xbb1.0;2.0;3.0",
+    ] {
+        let ended = [text, b"\n"].concat();
+        sheet.refused_at(18, 1, whole(&ended));
+        // Before and after good lines.
+        let good = good_lines(2).into_bytes();
+        sheet.refused_at(18, 1, whole([&ended[..], &good].concat()));
+        sheet.refused_at(18, 3, whole([&good[..], &ended].concat()));
+    }
+    let ended = |end: &str| good_lines(3).replace('\n', end);
+    sheet.refused_at(18, 1, whole(ended("\r\n")));
+    sheet.refused_at(18, 1, whole(ended("\r")));
+    sheet.refused_at(18, 2, whole(ended("\n\n")));
+    sheet.refused_at(18, 1, whole(ended(";\n")));
+    sheet.refused_at(18, 1, whole(good_lines(3).replace('.', ",")));
+    sheet.refused_at(18, 1, whole(good_lines(3).replace(';', "; ")));
+    reads(
+        sheet,
+        "1;12.3;74.0;8.0\n2;-0.5;0.0;2000.0\n3;0.0;0.5;0.1\n",
+        12,
+        &[[123, 740, 80], [-5, 0, 20_000], [0, 5, 1]],
+    );
+}
+
+/// Each field at the ends of its range and of its form.
+fn table_numbers(sheet: &mut Sheet) {
+    sheet.group("T: 13 and 14 on both sides of each bound, ten and eleven digits, 32 and 64 bits");
+    let water: &[(&str, u64)] = &[
+        ("0.0", 0),
+        ("0.1", 0),
+        ("1999.9", 0),
+        ("2000.0", 0),
+        ("2000.1", 14),
+        ("2001.0", 14),
+        ("20000.0", 14),
+        ("-0.1", 18),
+        ("-2000.0", 18),
+        ("1000000000.0", 14),
+        ("9999999999.9", 14),
+        ("10000000000.0", 18),
+        ("00000000001.0", 18),
+        // Tenths of 2^32 and 2^32 + 5; of 2^64 and 2^64 + 4.
+        ("429496729.6", 14),
+        ("429496730.1", 14),
+        ("1844674407370955161.6", 18),
+        ("1844674407370955162.0", 18),
+    ];
+    let air: &[(&str, u64)] = &[
+        ("-40.0", 0),
+        ("-39.9", 0),
+        ("49.9", 0),
+        ("50.0", 0),
+        ("-40.1", 13),
+        ("-41.0", 13),
+        ("-400.0", 13),
+        ("50.1", 13),
+        ("51.0", 13),
+        ("500.0", 13),
+        ("1000000000.0", 13),
+        ("9999999999.9", 13),
+        ("-1000000000.0", 13),
+        ("-9999999999.9", 13),
+        ("10000000000.0", 18),
+        ("-10000000000.0", 18),
+        ("00000000001.0", 18),
+        ("429496729.6", 13),
+        ("429496730.1", 13),
+        ("-429496729.6", 13),
+        ("-429496730.1", 13),
+        ("1844674407370955161.6", 18),
+        ("-1844674407370955162.0", 18),
+    ];
+    for (field, ends) in [(1, air), (2, water), (3, water)] {
+        for (text, number) in ends {
+            let call = whole(with_field(field, text.as_bytes()));
+            sheet.either(*number, call);
+            assert_eq!(sheet.answer()[2], u64::from(*number > 0));
+        }
+    }
+    reads(sheet, "1;-40.0;0.0;0.0\n", 4, &[[-400, 0, 0]]);
+    let most = [500, 20_000, 20_000];
+    reads(sheet, "1;50.0;2000.0;2000.0\n", 4, &[most]);
+}
+
+/// The month is the line's number, in the form of a value.
+fn table_months(sheet: &mut Sheet) {
+    sheet.group("T: months beside the line's number, of another form, of ten and more digits");
+    for (place, months) in [
+        (
+            1,
+            [
+                "0",
+                "2",
+                "01",
+                "",
+                "-1",
+                "+1",
+                "1.0",
+                "1.",
+                " 1",
+                "1 ",
+                "1\0",
+                "10",
+                "1000000001",
+                // 2^32 + 1, eleven digits, 2^64 + 1.
+                "4294967297",
+                "10000000001",
+                "00000000001",
+                "18446744073709551617",
+                "x",
+            ],
+        ),
+        (
+            10,
+            [
+                "9",
+                "11",
+                "010",
+                "",
+                "-10",
+                "+10",
+                "10.0",
+                "1",
+                "0",
+                "1O",
+                "10 ",
+                "100",
+                "1000000010",
+                "4294967306",
+                "10000000010",
+                "00000000010",
+                "18446744073709551626",
+                "1 0",
+            ],
+        ),
+    ] {
+        for month in months {
+            let line = format!("{month};1.0;2.0;3.0\n");
+            sheet.refused_at(18, place, whole(with_line(10, place as usize, &line)));
+        }
+    }
+    // From 0 and from 2 on, a line left out, a line twice, two lines changed over, a new year.
+    let lines = |months: &[usize]| -> String {
+        let lines = months
+            .iter()
+            .map(|month| table::line(*month, [93, 520, 830]));
+        lines.collect()
+    };
+    for (months, place) in [
+        (&[0, 1, 2][..], 1),
+        (&[2, 3, 4], 1),
+        (&[1, 2, 4, 5], 3),
+        (&[1, 2, 2, 3], 3),
+        (&[1, 3, 2, 4], 2),
+        (&[1, 1], 2),
+        (&[1, 2, 3, 4, 5, 6, 7, 8, 9, 10, 11, 12, 1, 2], 13),
+        (&[1, 2, 3, 4, 5, 6, 7, 8, 9, 1], 10),
+    ] {
+        sheet.refused_at(18, place, whole(lines(months)));
+    }
+    for count in [9, 10, 11, 12, 13, 101] {
+        let months: Vec<usize> = (1..=count).collect();
+        let room = count * WEATHER_NUMBERS;
+        reads(sheet, &lines(&months), room, &vec![[93, 520, 830]; count]);
+    }
+}
+
+/// Bytes after the last byte 10 are a line, counted for 3 and 8 and refused with 18 in its turn.
+fn table_ends(sheet: &mut Sheet) {
+    sheet.group("T: no bytes, a lone byte 10, and last lines that no byte 10 ends");
+    for room in [0, 1, 4, 40] {
+        sheet.refused_at(3, 0, table("", room));
+    }
+    for text in [
+        "\n",
+        "x",
+        "1;1.0;2.0;3.0",
+        " ",
+        "\r",
+        "\0",
+        "1;99.9;2.0;3.0",
+    ] {
+        for (room, number) in [(0, 8), (3, 8), (4, 18), (5, 18), (9, 18)] {
+            sheet.refused_at(number, u64::from(number == 18), table(text, room));
+        }
+        for count in [1, 2, 5] {
+            let text = good_lines(count) + text;
+            // Room for the ended lines alone is too short.
+            sheet.refused_at(8, 0, table(&text, count * 4));
+            sheet.refused_at(8, 0, table(&text, count * 4 + 3));
+            sheet.refused_at(18, count as u64 + 1, whole(&text));
+            sheet.refused_at(18, count as u64 + 1, table(&text, count * 4 + 11));
+        }
+        // After a faulty line that one wins.
+        for (number, line) in [
+            (18, "2;1;1;1\n"),
+            (13, "2;-40.1;1.0;1.0\n"),
+            (14, "2;1.0;1.0;2000.1\n"),
+        ] {
+            sheet.refused_at(number, 2, whole(with_line(3, 2, line) + text));
+        }
+    }
+    // The good table without its last byte, and with one byte 10 too many.
+    for count in [1, 2, 12] {
+        let good = good_lines(count);
+        sheet.refused_at(18, count as u64, whole(&good[..good.len() - 1]));
+        sheet.refused_at(18, count as u64 + 1, whole(good.clone() + "\n"));
+        sheet.runs(whole(good));
+    }
+}
+
+/// 8: room one number too short, exact, longer; the rest stays as it was.
+fn table_rooms(sheet: &mut Sheet) {
+    sheet.group("T: room one too short, exact, longer (the rest stays), none; 8 before the lines");
+    for count in [1, 2, 3, 12] {
+        let good = good_lines(count);
+        let faulty = with_line(count, 1, "1;50.1;x\n");
+        let exact = count * WEATHER_NUMBERS;
+        for room in [exact, exact + 1, exact + 3, exact + 4, exact + 15] {
+            sheet.runs(table(&good, room));
+            sheet.refused_at(18, 1, table(&faulty, room));
+        }
+        // Three numbers a line are too few too.
+        for room in [exact - 1, exact - 4, count * 3, 0] {
+            sheet.refused_at(8, 0, table(&good, room));
+            sheet.refused_at(8, 0, table(&faulty, room));
+        }
+    }
+    reads(sheet, "1;1.0;2.0;3.0\n", 6, &[[10, 20, 30]]);
+}
+
+/// The earliest faulty line wins, then 18, 13 and 14 in this order; nothing is written.
+fn table_order(sheet: &mut Sheet) {
+    sheet.group(
+        "T: the earliest faulty line wins, on a line 18 before 13 before 14; nothing written",
+    );
+    for (number, line) in [
+        (13, "1;50.1;2000.1;2000.1\n"),
+        (13, "1;-40.1;2000.1;0.0\n"),
+        (13, "1;9999999999.9;9999999999.9;9999999999.9\n"),
+        (14, "1;50.0;2000.1;2000.1\n"),
+        (14, "1;0.0;0.0;2000.1\n"),
+        (18, "1;50.1;2000.1;2000.10\n"),
+        (18, "1;50.1;-2000.1;0.0\n"),
+        (18, "1;0.0;2000.1;x\n"),
+        (18, "2;50.1;2000.1;0.0\n"),
+        (18, "1;50.1;2000.1;2000.1\r\n"),
+        (18, "1;50.1;2000.1\n"),
+        (18, "1;50.10;2000.1;0.0\n"),
+    ] {
+        sheet.refused_at(number, 1, whole(line));
+    }
+    let faults = [
+        (18, "0.0;0.0"),
+        (13, "50.1;0.0;0.0"),
+        (14, "0.0;2000.1;0.0"),
+        (14, "0.0;0.0;2000.1"),
+    ];
+    for (number, early) in faults {
+        for (_, late) in faults {
+            for (first, second) in [(1, 2), (1, 5), (3, 4), (4, 5)] {
+                let mut text = String::new();
+                for place in 1..=5 {
+                    text += &match place {
+                        _ if place == first => format!("{place};{early}\n"),
+                        _ if place == second => format!("{place};{late}\n"),
+                        _ => table::line(place, [93, 520, 830]),
+                    };
+                }
+                sheet.refused_at(number, first as u64, table(text, 22));
+            }
+        }
+        // A late line of a longer table: all of the output stays.
+        for place in [2, 20, 39, 40] {
+            let text = with_line(40, place, &format!("{place};{early}\n"));
+            sheet.refused_at(number, place as u64, table(text, 163));
+        }
+    }
+}
+
+/// 3 at 1,200 lines and above, an unended line among them.
+fn table_long(sheet: &mut Sheet) {
+    sheet.group("T: 1,200 and 1,201 lines, an unended line counted");
+    let line = |month: usize| table::line(month, [0; 3]);
+    let most: String = (1..=1_200).map(line).collect();
+    reads(sheet, &most, 4_800, &[[0; 3]; 1_200]);
+    // Its last line unended: still 1,200 lines, and 18 at the last.
+    sheet.refused_at(18, 1_200, whole(&most[..most.len() - 1]));
+    sheet.refused_at(3, 0, table(most + &line(1_201), 4_804));
+    // 3 comes before 8 and before the lines; bare ends of lines are lines too.
+    let ends = |count: usize| "\n".repeat(count);
+    for room in [0, 4_800, 4_804] {
+        sheet.refused_at(3, 0, table(ends(1_201), room));
+        sheet.refused_at(3, 0, table(ends(1_200) + "1", room));
+    }
+    sheet.refused_at(3, 0, table(ends(5_000), 4));
+    for (text, number) in [(ends(1_200), 8), (ends(1_199) + "1", 8)] {
+        sheet.refused_at(number, 0, table(&text, 4_799));
+        sheet.refused_at(18, 1, table(&text, 4_800));
+    }
+    // One line of many bytes is one line.
+    sheet.refused_at(18, 1, table("1".repeat(3_000) + "\n", 4));
+    sheet.refused_at(18, 1, table(";".repeat(3_000), 4));
+}
+
+/// Drawn tables, and the rows of each run as a list.
+fn table_drawn(sheet: &mut Sheet) {
+    sheet.group("T and L: drawn tables, and the rows of each run as a list's weather");
+    let mut draw = Draw::new(83);
+    for round in 0..24 {
+        let count = 1 + draw.below(30) as usize;
+        let skies: Vec<[i64; 3]> = (0..count)
+            .map(|_| {
+                let [temperature, rain, evaporation, ..] = drawn_entries(&mut draw);
+                [temperature, rain, evaporation]
+            })
+            .collect();
+        let lines = (1..)
+            .zip(&skies)
+            .map(|(month, row)| table::line(month, *row));
+        let text: String = lines.collect();
+        let room = count * WEATHER_NUMBERS + round % 3;
+        reads(sheet, &text, room, &skies);
+        let mut weather = vec![0; room];
+        table::read(text.as_bytes(), &mut weather).expect("a good table");
+        weather.truncate(count * WEATHER_NUMBERS);
+        let months = 1 + draw.below(24) as usize;
+        let land = drawn_land(&mut draw, months, 60_000);
+        let call = loop {
+            let call = list(&weather, &land, months * 7, drawn_state(&mut draw, 90_000));
+            if call.fixed_answer().1 {
+                break call;
+            }
+        };
+        sheet.runs(call);
     }
 }
 
@@ -1522,10 +2227,11 @@ mod tests {
     fn lines_and_their_size() {
         let groups = groups();
         let lines: Vec<&Line> = groups.iter().flat_map(|group| &group.lines).collect();
-        let input: usize = lines.iter().map(|line| line.call.line().len() + 1).sum();
-        let output: usize = lines.iter().map(|line| words(&line.answer).len() + 1).sum();
-        assert!(lines.len() >= 2_400, "{} lines", lines.len());
-        assert!(input < 700_000, "{input} bytes in");
+        let input: usize = lines.iter().map(|line| line.call.input().len()).sum();
+        let answered = |line: &&Line| line.call.answer_line(&line.answer).len() + 1;
+        let output: usize = lines.iter().map(answered).sum();
+        assert!(lines.len() >= 3_800, "{} lines", lines.len());
+        assert!(input < 800_000, "{input} bytes in");
         assert!(output < 900_000, "{output} bytes out");
         // Every refusal that a call can meet is there, and the limits of the format are kept.
         let mut seen = std::collections::BTreeSet::new();
@@ -1541,14 +2247,18 @@ mod tests {
                 ..
             } = &line.call
             {
-                assert!(weather.len() <= 3_700 && land.len() <= 3_700 && *output <= 8_500);
+                assert!(weather.len() <= 4_900 && land.len() <= 3_700 && *output <= 8_500);
+            }
+            if let Call::Table { room, table } = &line.call {
+                assert!(*room <= 4_900 && table.len() <= 25_000);
             }
         }
-        let wanted: [(char, &[u64]); 4] = [
+        let wanted: [(char, &[u64]); 5] = [
             ('N', &[0, 4, 5, 6, 7]),
-            ('M', &[0, 4, 5, 6, 7, 10, 11, 12, 13, 14, 15, 16, 17]),
-            ('L', &[0, 3, 4, 5, 6, 7, 8, 10, 12, 13, 14, 15, 16, 17]),
-            ('S', &[0, 3, 4, 5, 6, 7, 9, 10, 12, 13, 14, 15, 16, 17]),
+            ('M', &[0, 4, 5, 6, 7, 10, 11, 12, 13, 14, 19, 15, 16, 17]),
+            ('L', &[0, 3, 4, 5, 6, 7, 8, 10, 12, 13, 14, 19, 15, 16, 17]),
+            ('S', &[0, 3, 4, 5, 6, 7, 9, 10, 12, 13, 14, 19, 15, 16, 17]),
+            ('T', &[0, 3, 8, 13, 14, 18]),
         ];
         let wanted = wanted
             .iter()
@@ -1569,10 +2279,5 @@ mod tests {
                 assert!(answer == line.answer, "{}", line.call.line());
             }
         }
-    }
-
-    fn words(numbers: &[u64]) -> String {
-        let words: Vec<String> = numbers.iter().map(u64::to_string).collect();
-        words.join(" ")
     }
 }

@@ -3,25 +3,32 @@
 //! | line | the call | its answer |
 //! |---|---|---|
 //! | `N` soil(8) | a soil's new state | number, the 11 of the lent state |
-//! | `M` state(11) number entries(6) | a single month call | number, the 7 of the lent row, the 11 of the state |
+//! | `M` state(11) number entries(7) | a single month call | number, the 7 of the lent row, the 11 of the state |
 //! | `L` w weather(w) l land(l) o state(11) | a list with an output of o numbers | number, place, the 11 of the state, the o of the output |
 //! | `S` w weather(w) l land(l) years state(11) | a spin-up | number, settled, years run or place, the 11 of the state |
+//! | `T` room length | a table, with an output of room numbers | number, rows, place, the room of the output |
 //! | `D` n pool s | a survival number | 1 where it is at most 1 from s, else 0 |
 //!
 //! soil: clay, depth, kind, DPM, RPM, BIO, HUM, IOM. state: these 8, deficit, months done, CO2 to
-//! date. entries: temperature, rain, evaporation, cover, plant, manure. row: the five pools, the
-//! month's CO2, deficit. number: the refusal's, 0 where nothing is refused.
+//! date. entries: a weather row and a land row. weather row: temperature, rain, evaporation, source
+//! (0 open pan, 1 evapotranspiration). land row: cover, plant, manure. row: the five pools, the
+//! month's CO2, deficit. number: the refusal's, 0 where nothing is refused. A table's bytes follow
+//! its line, exactly as many as its length says, and one byte 10 follows them.
 
 use crate::exponential::survival_range;
 use crate::fixed::month_fixed;
 use crate::model::{
     check_call, list_watched, month, spin_up_watched, Entries, Nearest, Refusal, Soil, Spun, State,
-    Survival, Watch, OUTPUT_NUMBERS, RATES,
+    Survival, Watch, LAND_NUMBERS, OUTPUT_NUMBERS, RATES, WEATHER_NUMBERS,
 };
+use crate::table;
 
 pub const SOIL_NUMBERS: usize = 8;
 pub const STATE_NUMBERS: usize = 11;
-pub const ENTRY_NUMBERS: usize = 6;
+pub const ENTRY_NUMBERS: usize = WEATHER_NUMBERS + LAND_NUMBERS;
+
+/// Numbers of a table's answer before its output: the refusal's number, rows, place.
+const TABLE_HEAD: usize = 3;
 
 /// What lent memory holds before a call of the test lines.
 pub const FILL: u64 = 7;
@@ -29,6 +36,8 @@ pub const FILL: u64 = 7;
 pub type SoilNumbers = [u64; SOIL_NUMBERS];
 pub type StateNumbers = [u64; STATE_NUMBERS];
 pub type EntryNumbers = [i64; ENTRY_NUMBERS];
+pub type WeatherRow = [i64; WEATHER_NUMBERS];
+pub type LandRow = [i64; LAND_NUMBERS];
 
 /// Places in a state's numbers.
 pub const CLAY: usize = 0;
@@ -41,13 +50,14 @@ pub const DEFICIT: usize = 8;
 pub const MONTHS: usize = 9;
 pub const CO2: usize = 10;
 
-/// Places in the entries.
+/// Places in the entries; the first four also in a weather row.
 pub const TEMPERATURE: usize = 0;
 pub const RAIN: usize = 1;
 pub const EVAPORATION: usize = 2;
-pub const COVER: usize = 3;
-pub const PLANT: usize = 4;
-pub const MANURE: usize = 5;
+pub const SOURCE: usize = 3;
+pub const COVER: usize = 4;
+pub const PLANT: usize = 5;
+pub const MANURE: usize = 6;
 
 pub fn soil_of(numbers: &[u64]) -> Soil {
     Soil {
@@ -91,6 +101,7 @@ pub fn entries_of(numbers: &EntryNumbers) -> Entries {
         temperature: numbers[TEMPERATURE],
         rain: numbers[RAIN],
         evaporation: numbers[EVAPORATION],
+        source: numbers[SOURCE],
         cover: numbers[COVER],
         plant: numbers[PLANT],
         manure: numbers[MANURE],
@@ -119,6 +130,11 @@ pub enum Call {
         land: Vec<i64>,
         years: u64,
         state: StateNumbers,
+    },
+    Table {
+        /// Numbers of the lent output.
+        room: usize,
+        table: Vec<u8>,
     },
     Survival {
         n: u64,
@@ -151,7 +167,7 @@ fn refusal<T>(answer: &Result<T, Refusal>) -> (u64, u64) {
 }
 
 impl Call {
-    /// The call's line, without byte 10.
+    /// The call's line, without byte 10 and without a table's bytes.
     pub fn line(&self) -> String {
         match self {
             Call::New { soil } => format!("N {}", words(soil)),
@@ -182,12 +198,39 @@ impl Call {
                 counted(land),
                 words(state)
             ),
+            Call::Table { room, table } => format!("T {room} {}", table.len()),
             Call::Survival { n, pool, s } => format!("D {n} {pool} {s}"),
         }
     }
 
-    /// The numbers of the answer. Lent memory that is written holds `fill` before the call;
-    /// `watch` sees each month that runs.
+    /// All that stands for the call in the test input: its line and byte 10; then a table's bytes
+    /// and one byte 10 more.
+    pub fn input(&self) -> Vec<u8> {
+        let mut bytes = self.line().into_bytes();
+        bytes.push(b'\n');
+        if let Call::Table { table, .. } = self {
+            bytes.extend(table);
+            bytes.push(b'\n');
+        }
+        bytes
+    }
+
+    /// The line of an answer to this call, without byte 10. The numbers of a table's output are
+    /// signed.
+    pub fn answer_line(&self, answer: &[u64]) -> String {
+        match self {
+            Call::Table { .. } => {
+                let (head, output) = answer.split_at(TABLE_HEAD);
+                let output = output.iter().map(|number| i128::from(*number as i64));
+                let head = head.iter().map(|number| i128::from(*number));
+                words(&head.chain(output).collect::<Vec<i128>>())
+            }
+            _ => words(answer),
+        }
+    }
+
+    /// The numbers of the answer, signed ones by their 64 bits. Lent memory that is written holds
+    /// `fill` before the call; `watch` sees each month that runs.
     pub fn answer(&self, fill: u64, survival: &mut dyn Survival, watch: Watch) -> Vec<u64> {
         match self {
             Call::New { soil } => {
@@ -241,6 +284,14 @@ impl Call {
                 };
                 [&[number, settled, years], &numbers_of(&next)[..]].concat()
             }
+            Call::Table { room, table } => {
+                let mut output = vec![fill as i64; *room];
+                let answer = table::read(table, &mut output);
+                let (number, place) = refusal(&answer);
+                let output = output.iter().map(|number| *number as u64);
+                let head: [u64; TABLE_HEAD] = [number, answer.unwrap_or(0), place];
+                head.into_iter().chain(output).collect()
+            }
             Call::Survival { n, pool, s } => {
                 let own = survival.survival(*n, RATES[*pool]);
                 vec![u64::from(own.abs_diff(*s) <= 1)]
@@ -269,7 +320,7 @@ mod tests {
 
     fn text(call: &Call) -> (String, String, bool) {
         let (answer, fixed) = call.fixed_answer();
-        (call.line(), words(&answer), fixed)
+        (call.line(), call.answer_line(&answer), fixed)
     }
 
     #[test]
@@ -292,10 +343,11 @@ mod tests {
             text(&Call::Month {
                 state,
                 number: 1,
-                entries: [34, 740, 80, 0, 0, 0]
+                entries: [34, 740, 80, 0, 0, 0, 0]
             }),
             (
-                "M 234 23 1 153300 4485200 667100 25857600 2700000 0 0 0 1 34 740 80 0 0 0".into(),
+                "M 234 23 1 153300 4485200 667100 25857600 2700000 0 0 0 1 34 740 80 0 0 0 0"
+                    .into(),
                 "0 113937 4445447 665104 25855106 2700000 83606 0 \
                  234 23 1 113937 4445447 665104 25855106 2700000 0 1 83606"
                     .into(),
@@ -304,13 +356,13 @@ mod tests {
         );
         assert_eq!(
             text(&Call::List {
-                weather: vec![34, 740, 80],
+                weather: vec![34, 740, 60, 1],
                 land: vec![0, 0, 0, 2, 0, 0],
                 output: 15,
                 state
             }),
             (
-                "L 3 34 740 80 6 0 0 0 2 0 0 15 234 23 1 153300 4485200 667100 25857600 2700000 0 0 0"
+                "L 4 34 740 60 1 6 0 0 0 2 0 0 15 234 23 1 153300 4485200 667100 25857600 2700000 0 0 0"
                     .into(),
                 "15 2 234 23 1 113937 4445447 665104 25855106 2700000 0 1 83606 \
                  113937 4445447 665104 25855106 2700000 83606 0 7 7 7 7 7 7 7 7"
@@ -331,6 +383,16 @@ mod tests {
                 true
             )
         );
+        let table = |room: usize, bytes: &[u8]| Call::Table {
+            room,
+            table: bytes.to_vec(),
+        };
+        let good = table(6, b"1;-0.5;74.0;8.0\n");
+        assert_eq!(good.input(), b"T 6 16\n1;-0.5;74.0;8.0\n\n");
+        assert_eq!(text(&good).1, "0 1 0 -5 740 80 1 7 7");
+        let bad = table(5, b"\xff");
+        assert_eq!(bad.input(), b"T 5 1\n\xff\n");
+        assert_eq!(text(&bad).1, "18 0 1 7 7 7 7 7");
         let s = |s| text(&Call::Survival { n: 0, pool: 3, s });
         assert_eq!(
             s(1_000_000_001),

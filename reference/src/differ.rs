@@ -7,16 +7,20 @@
 
 use crate::book::{self, Answer};
 use crate::calls::{
-    entries_of, soil_of, state_of, Call, EntryNumbers, SoilNumbers, StateNumbers, CLAY, CO2, COVER,
-    DEFICIT, DEPTH, ENTRY_NUMBERS, EVAPORATION, INERT, KIND, MANURE, MONTHS, PLANT, POOLS, RAIN,
-    SOIL_NUMBERS, STATE_NUMBERS, TEMPERATURE,
+    entries_of, soil_of, state_of, Call, EntryNumbers, LandRow, SoilNumbers, StateNumbers,
+    WeatherRow, CLAY, CO2, COVER, DEFICIT, DEPTH, ENTRY_NUMBERS, EVAPORATION, INERT, KIND, MANURE,
+    MONTHS, PLANT, POOLS, RAIN, SOIL_NUMBERS, SOURCE, STATE_NUMBERS, TEMPERATURE,
 };
 use crate::exponential::{within, BILLION};
 use crate::fraction::Fraction;
-use crate::model::{Survival, MONTH_LIMIT, OUTPUT_NUMBERS, RATES};
+use crate::model::{
+    Survival, EVAPOTRANSPIRATION, LAND_NUMBERS, MONTH_LIMIT, OPEN_PAN, OUTPUT_NUMBERS, RATES,
+    WEATHER_NUMBERS,
+};
 use crate::recurrence::{
     carbon_closes, distance_exact, q_highest, q_lowest, Call as Answered, Decision, Enclosure,
 };
+use crate::table;
 use crate::vectors::{vectors, Draw};
 use std::collections::HashMap;
 
@@ -53,6 +57,8 @@ pub trait Program {
     ) -> u64;
     /// `length`: of the text, also where `out` is too short for it (8).
     fn book(&mut self, book: &[u8], out: &mut [u8], length: &mut u64) -> u64;
+    /// `rows`: how many were written; `place`: the line, 0 for 3 and 8 and where it was read.
+    fn table(&mut self, table: &[u8], weather: &mut [i64], rows: &mut u64, place: &mut u64) -> u64;
     /// `NO_SURVIVAL` for a pool above 3 or an n above `LARGEST_N`.
     fn survival(&mut self, n: u64, pool: u64) -> u64;
 }
@@ -64,6 +70,9 @@ pub struct Counts {
     pub lists: u64,
     pub spin_ups: u64,
     pub books: u64,
+    pub tables: u64,
+    /// Months by an open pan beside the same months by evapotranspiration.
+    pub pairs: u64,
     /// Accepted months of the long chain.
     pub chain: u64,
 }
@@ -75,6 +84,8 @@ impl Default for Counts {
             lists: 1_000,
             spin_ups: 100,
             books: 10_000,
+            tables: 24_000,
+            pairs: 6_000,
             chain: MONTH_LIMIT,
         }
     }
@@ -119,6 +130,8 @@ pub struct Differ<'a> {
     pub first: Vec<String>,
     /// Calls by letter and number of their answer, to see that the draws reach everything.
     pub seen: HashMap<(char, u64), u64>,
+    /// Month calls by open pan, by evapotranspiration and by another source.
+    pub sources: [u64; 3],
 }
 
 /// What a long chain is made of.
@@ -138,33 +151,46 @@ const SHOWN: usize = 5;
 const MARGIN: usize = 3;
 const GUARD: u64 = 0x5a5a_a5a5_1234_4321;
 
-/// Numbers with a margin on both sides.
-#[derive(Debug)]
-struct Lent {
-    numbers: Vec<u64>,
+/// Numbers that are lent, and what stands beside them.
+trait Number: Copy + PartialEq {
+    const GUARD: Self;
 }
 
-impl Lent {
-    fn new(numbers: &[u64]) -> Lent {
+impl Number for u64 {
+    const GUARD: u64 = GUARD;
+}
+
+impl Number for i64 {
+    const GUARD: i64 = GUARD as i64;
+}
+
+/// Numbers with a margin on both sides.
+#[derive(Debug)]
+struct Lent<T = u64> {
+    numbers: Vec<T>,
+}
+
+impl<T: Number> Lent<T> {
+    fn new(numbers: &[T]) -> Lent<T> {
         Lent {
-            numbers: [&[GUARD; MARGIN], numbers, &[GUARD; MARGIN]].concat(),
+            numbers: [&[T::GUARD; MARGIN], numbers, &[T::GUARD; MARGIN]].concat(),
         }
     }
 
-    fn filled(fill: u64, count: usize) -> Lent {
+    fn filled(fill: T, count: usize) -> Lent<T> {
         Lent::new(&vec![fill; count])
     }
 
-    fn get(&mut self) -> &mut [u64] {
+    fn get(&mut self) -> &mut [T] {
         let end = self.numbers.len() - MARGIN;
         &mut self.numbers[MARGIN..end]
     }
 
     /// The numbers lent; the margins must stand.
-    fn take(&self) -> Result<&[u64], String> {
+    fn take(&self) -> Result<&[T], String> {
         let end = self.numbers.len() - MARGIN;
         let margins = self.numbers[..MARGIN].iter().chain(&self.numbers[end..]);
-        if margins.into_iter().any(|number| *number != GUARD) {
+        if margins.into_iter().any(|number| *number != T::GUARD) {
             return Err("memory beside the lent memory was written".into());
         }
         Ok(&self.numbers[MARGIN..end])
@@ -216,6 +242,22 @@ pub fn program_answer(
             let number = program.spin_up(state.get(), weather, land, *years, result.get());
             Ok([&[number], result.take()?, state.take()?].concat())
         }
+        Call::Table { room, table } => {
+            let mut weather = Lent::filled(fill as i64, *room);
+            let (mut rows, mut place) = (Lent::filled(fill, 1), Lent::filled(fill, 1));
+            let number = program.table(
+                table,
+                weather.get(),
+                &mut rows.get()[0],
+                &mut place.get()[0],
+            );
+            let weather: Vec<u64> = weather
+                .take()?
+                .iter()
+                .map(|tenths| *tenths as u64)
+                .collect();
+            Ok([&[number], rows.take()?, place.take()?, &weather].concat())
+        }
         Call::Survival { n, pool, s } => {
             let own = program.survival(*n, *pool as u64);
             Ok(vec![u64::from(own.abs_diff(*s) <= 1)])
@@ -264,6 +306,7 @@ impl<'a> Differ<'a> {
             differ: 0,
             first: Vec::new(),
             seen: HashMap::new(),
+            sources: [0; 3],
         }
     }
 
@@ -275,6 +318,8 @@ impl<'a> Differ<'a> {
         self.lists(counts.lists);
         self.spin_ups(counts.spin_ups);
         self.books(counts.books);
+        self.tables(counts.tables);
+        self.pairs(counts.pairs);
         self.wrong_lengths();
         self.short_chains();
         self.long_chain(counts.chain, Plan::Mixed);
@@ -284,6 +329,19 @@ impl<'a> Differ<'a> {
 
     fn say(&mut self, text: String) {
         (self.progress)(&text);
+    }
+
+    /// How often calls of this letter were answered with each number, the test lines among them.
+    fn answers(&self, letter: char) -> String {
+        let seen = self.seen.iter().filter(|((own, _), _)| *own == letter);
+        let mut numbers: Vec<(u64, u64)> =
+            seen.map(|((_, number), times)| (*number, *times)).collect();
+        numbers.sort_unstable();
+        let words: Vec<String> = numbers
+            .iter()
+            .map(|(number, times)| format!("{number}: {times}"))
+            .collect();
+        format!("answers so far {}", words.join(", "))
     }
 
     /// Counts a comparison.
@@ -297,14 +355,19 @@ impl<'a> Differ<'a> {
         }
     }
 
-    /// One call; the other program's state after it, where it has one.
-    fn call(&mut self, call: &Call) -> Option<StateNumbers> {
-        let fill = match self.draw.below(4) {
+    /// What lent memory holds before a call.
+    fn fill(&mut self) -> u64 {
+        match self.draw.below(4) {
             0 => 0,
             1 => u64::MAX,
             2 => self.draw.next(),
             _ => 7,
-        };
+        }
+    }
+
+    /// One call; the other program's state after it, where it has one.
+    fn call(&mut self, call: &Call) -> Option<StateNumbers> {
+        let fill = self.fill();
         let given = program_answer(self.program, call, fill);
         let mut faults = Vec::new();
         let mut asked = Asked {
@@ -315,6 +378,12 @@ impl<'a> Differ<'a> {
         let wanted = call.answer(fill, &mut asked, &mut |_, _| ());
         let letter = call.line().chars().next().unwrap();
         *self.seen.entry((letter, wanted[0])).or_default() += 1;
+        if let Call::Month { entries, .. } = call {
+            let source = [OPEN_PAN, EVAPOTRANSPIRATION]
+                .iter()
+                .position(|source| *source == entries[SOURCE]);
+            self.sources[source.unwrap_or(2)] += 1;
+        }
         let same = given.as_ref() == Ok(&wanted) && faults.is_empty();
         self.outcome(same, || {
             let numbers = match &given {
@@ -323,7 +392,7 @@ impl<'a> Differ<'a> {
             };
             format!(
                 "call:   {}\nfill:   {fill}\n{numbers}\nS:      {faults:?}",
-                call.line()
+                shown(&call.input())
             )
         });
         let at = match call {
@@ -331,7 +400,7 @@ impl<'a> Differ<'a> {
             Call::Month { .. } => 1 + OUTPUT_NUMBERS,
             Call::List { .. } => 2,
             Call::SpinUp { .. } => 3,
-            Call::Survival { .. } => return None,
+            Call::Table { .. } | Call::Survival { .. } => return None,
         };
         given
             .ok()
@@ -445,7 +514,7 @@ impl<'a> Differ<'a> {
         state
     }
 
-    fn weather(&mut self) -> [i64; 3] {
+    fn weather(&mut self) -> WeatherRow {
         let temperature = match self.draw.below(8) {
             0 => self.pick(&[-400, -399, -52, -51, -50, -49, 0, 133, 499, 500]),
             1 => self.draw.between(-400, 500),
@@ -457,11 +526,12 @@ impl<'a> Differ<'a> {
             1 => (0, 0),
             _ => (self.draw.between(0, 1_500), self.draw.between(0, 1_800)),
         };
-        [temperature, rain, evaporation]
+        let source = self.draw.between(OPEN_PAN, EVAPOTRANSPIRATION);
+        [temperature, rain, evaporation, source]
     }
 
     /// Cover, plant and manure; together at most `room` grams, often just that.
-    fn land(&mut self, room: u64) -> [i64; 3] {
+    fn land(&mut self, room: u64) -> LandRow {
         const MOST: u64 = 100_000_000;
         let (plant, manure) = match self.draw.below(8) {
             0 => (0, 0),
@@ -485,9 +555,9 @@ impl<'a> Differ<'a> {
 
     fn entries(&mut self, state: &StateNumbers) -> EntryNumbers {
         let room = 1_000_000_000u64.saturating_sub(active(state));
-        let [temperature, rain, evaporation] = self.weather();
+        let [temperature, rain, evaporation, source] = self.weather();
         let [cover, plant, manure] = self.land(room);
-        [temperature, rain, evaporation, cover, plant, manure]
+        [temperature, rain, evaporation, source, cover, plant, manure]
     }
 
     /// An unsigned number that may be out of its bounds: beside a bound, or at an end.
@@ -572,7 +642,7 @@ impl<'a> Differ<'a> {
         entries[place] = match place {
             TEMPERATURE => self.wild_signed(&[-400, 500, -50]),
             RAIN | EVAPORATION => self.wild_signed(&[0, 20_000]),
-            COVER => self.wild_signed(&[0, 1]),
+            SOURCE | COVER => self.wild_signed(&[0, 1]),
             _ => {
                 let other = entries[PLANT + MANURE - place];
                 let pools = state[POOLS..INERT]
@@ -637,7 +707,7 @@ impl<'a> Differ<'a> {
                         Ok(given) => difference(&line.answer, given),
                         Err(text) => text.clone(),
                     };
-                    format!("line:   {}\n{numbers}", line.call.line())
+                    format!("line:   {}\n{numbers}", shown(&line.call.input()))
                 });
             }
         }
@@ -681,7 +751,12 @@ impl<'a> Differ<'a> {
             self.chain(length);
             done += length;
         }
-        self.say(format!("month calls: {count}, {chained} of them in chains"));
+        let [pan, office, other] = self.sources;
+        self.say(format!(
+            "month calls: {count}, {chained} of them in chains; so far {pan} by open pan, \
+             {office} by evapotranspiration, {other} by another source; {}",
+            self.answers('M')
+        ));
     }
 
     /// Calls on one state, each given the state that the last one returned.
@@ -716,20 +791,20 @@ impl<'a> Differ<'a> {
 
     /// Weather rows and land rows as plain numbers, one in `faulty` of them wild.
     fn row_numbers(&mut self, rows: usize, faulty: u64, weather: bool, largest: u64) -> Vec<i64> {
-        let mut numbers = Vec::with_capacity(rows * 3);
+        let mut numbers = Vec::with_capacity(rows * WEATHER_NUMBERS);
         for _ in 0..rows {
             let mut row = if weather {
-                self.weather()
+                self.weather().to_vec()
             } else {
                 let room = self.draw.below(largest + 1);
-                self.land(room)
+                self.land(room).to_vec()
             };
             if faulty > 0 && self.draw.below(faulty) == 0 {
-                let place = self.draw.below(3) as usize;
+                let place = self.draw.below(row.len() as u64) as usize;
                 row[place] = match (weather, place) {
-                    (true, 0) => self.wild_signed(&[-400, 500]),
+                    (true, TEMPERATURE) => self.wild_signed(&[-400, 500]),
+                    (true, SOURCE) | (false, 0) => self.wild_signed(&[0, 1]),
                     (true, _) => self.wild_signed(&[0, 20_000]),
-                    (false, 0) => self.wild_signed(&[0, 1]),
                     (false, _) => self.wild_signed(&[0, 100_000_000]),
                 };
             }
@@ -773,11 +848,14 @@ impl<'a> Differ<'a> {
             let mut land = self.row_numbers(months, faulty, false, largest);
             if self.draw.below(30) == 0 {
                 let extra = self.draw.next() as i64;
-                match self.draw.below(4) {
+                match self.draw.below(6) {
                     0 => weather.push(extra),
                     1 => land.push(extra),
                     2 => drop(weather.pop()),
-                    _ => drop(land.pop()),
+                    3 => drop(land.pop()),
+                    // As many numbers as the other kind of row has.
+                    4 => weather.truncate(rows * LAND_NUMBERS),
+                    _ => land.resize(months * WEATHER_NUMBERS, 0),
                 }
             }
             let exact = months * OUTPUT_NUMBERS;
@@ -795,13 +873,14 @@ impl<'a> Differ<'a> {
                 state,
             });
         }
-        self.say(format!("lists: {count}"));
+        self.say(format!("lists: {count}; {}", self.answers('L')));
     }
 
     fn spin_ups(&mut self, count: u64) {
         for done in 0..count {
             let mut rows = || match self.draw.below(16) {
-                0 => self.pick(&[0, 11, 13, 24]),
+                // 9 weather rows are 36 numbers, 16 land rows 48.
+                0 => self.pick(&[0, 9, 11, 13, 16, 24]),
                 _ => 12,
             };
             let (skies, fields) = (rows(), rows());
@@ -828,7 +907,7 @@ impl<'a> Differ<'a> {
                 state,
             });
         }
-        self.say(format!("spin-ups: {count}"));
+        self.say(format!("spin-ups: {count}; {}", self.answers('S')));
     }
 
     // ---- Books ----
@@ -888,7 +967,12 @@ impl<'a> Differ<'a> {
         };
         let text = book::run(bytes, &mut asked);
         let same = text == output && faults.is_empty();
-        self.outcome(same, || format!("example {name}\nS: {faults:?}\n{}", difference(&text, output)));
+        self.outcome(same, || {
+            format!(
+                "example {name}\nS: {faults:?}\n{}",
+                difference(&text, output)
+            )
+        });
         self.book(bytes, None);
         self.say(format!("example {name}"));
     }
@@ -905,7 +989,7 @@ impl<'a> Differ<'a> {
         };
         text += &format!("WEATHER {skies}\n");
         for _ in 0..skies {
-            push_row(&mut text, &self.weather());
+            push_row(&mut text, &self.weather()[..SOURCE]);
         }
         text += &format!("LAND {fields}\n");
         let largest = self.pick(&[1_000, 1_000_000, 30_000_000]);
@@ -914,6 +998,74 @@ impl<'a> Differ<'a> {
             push_row(&mut text, &self.land(room));
         }
         text.into_bytes()
+    }
+
+    /// Damage that any text can take, with these bytes: bytes changed, cut, inserted, copied or put
+    /// at the end, lines doubled, dropped or changed over.
+    fn damage_text(&mut self, text: &mut Vec<u8>, bytes: &[u8]) {
+        if text.is_empty() {
+            text.push(self.pick(bytes));
+            return;
+        }
+        let place = self.draw.below(text.len() as u64) as usize;
+        let mut lines = lines_of(text);
+        let line = self.draw.below(lines.len() as u64) as usize;
+        let other = self.draw.below(lines.len() as u64) as usize;
+        match self.draw.below(10) {
+            0 => text[place] ^= 1 << self.draw.below(8),
+            1 => text[place] = self.pick(bytes),
+            2 => text.truncate(place),
+            3 => {
+                let end = (place + 1 + self.draw.below(9) as usize).min(text.len());
+                drop(text.drain(place..end));
+            }
+            4 => text.insert(place, self.pick(bytes)),
+            5 => {
+                let again = lines[line].clone();
+                lines.insert(line, again);
+                *text = lines.concat();
+            }
+            6 => {
+                lines.remove(line);
+                *text = lines.concat();
+            }
+            7 => {
+                lines.swap(line, other);
+                *text = lines.concat();
+            }
+            8 => {
+                let end = (place + self.draw.below(40) as usize).min(text.len());
+                let copy = text[place..end].to_vec();
+                let to = self.draw.below(text.len() as u64) as usize;
+                drop(text.splice(to..to, copy));
+            }
+            _ => text.extend(std::iter::repeat_n(
+                self.pick(bytes),
+                1 + self.draw.below(3) as usize,
+            )),
+        }
+    }
+
+    /// The words of one of a text's lines changed, if it has lines; `change` is also told which.
+    fn change_some_line(
+        &mut self,
+        text: &mut Vec<u8>,
+        between: &str,
+        change: impl FnOnce(&mut Self, usize, &mut Vec<String>),
+    ) {
+        let lines = lines_of(text).len() as u64;
+        if lines > 0 {
+            let line = self.draw.below(lines) as usize;
+            change_line(text, line, between, |words| change(self, line, words));
+        }
+    }
+
+    /// One of a line's words changed to one of these values.
+    fn change_value(&mut self, text: &mut Vec<u8>, between: &str, values: &[&str]) {
+        self.change_some_line(text, between, |own, _, words| {
+            let word = own.draw.below(words.len() as u64) as usize;
+            words[word] = own.pick(values).to_string();
+        });
     }
 
     fn damage(&mut self, book: &mut Vec<u8>) {
@@ -952,81 +1104,33 @@ impl<'a> Differ<'a> {
             "10000000000",
             "18446744073709551617",
         ];
-        if book.is_empty() {
-            book.push(self.pick(BYTES));
-            return;
-        }
-        let place = self.draw.below(book.len() as u64) as usize;
-        let mut lines: Vec<Vec<u8>> = book
-            .split_inclusive(|byte| *byte == 10)
-            .map(<[u8]>::to_vec)
-            .collect();
-        let line = self.draw.below(lines.len() as u64) as usize;
-        let other = self.draw.below(lines.len() as u64) as usize;
         match self.draw.below(16) {
-            0 => book[place] ^= 1 << self.draw.below(8),
-            1 => book[place] = self.pick(BYTES),
-            2 => book.truncate(place),
-            3 => {
-                let end = (place + 1 + self.draw.below(9) as usize).min(book.len());
-                drop(book.drain(place..end));
-            }
-            4 => book.insert(place, self.pick(BYTES)),
-            5 => {
-                let again = lines[line].clone();
-                lines.insert(line, again);
-                *book = lines.concat();
-            }
-            6 => {
-                lines.remove(line);
-                *book = lines.concat();
-            }
-            7 => {
-                lines.swap(line, other);
-                *book = lines.concat();
-            }
-            8 => {
-                let end = (place + self.draw.below(40) as usize).min(book.len());
-                let copy = book[place..end].to_vec();
-                let to = self.draw.below(book.len() as u64) as usize;
-                drop(book.splice(to..to, copy));
-            }
-            9 => book.extend(std::iter::repeat_n(
-                self.pick(BYTES),
-                1 + self.draw.below(3) as usize,
-            )),
+            0..=9 => self.damage_text(book, BYTES),
             // A head's count.
             10 | 11 => {
-                let heads: Vec<usize> = (0..lines.len())
-                    .filter(|index| lines[*index].first().is_some_and(u8::is_ascii_uppercase))
+                let heads: Vec<usize> = lines_of(book)
+                    .iter()
+                    .enumerate()
+                    .filter(|(_, line)| line.first().is_some_and(u8::is_ascii_uppercase))
+                    .map(|(index, _)| index)
                     .collect();
                 if heads.is_empty() {
                     return;
                 }
                 let head = self.pick(&heads);
-                let text = String::from_utf8_lossy(&lines[head]).into_owned();
-                let mut words: Vec<String> = text.trim().split(' ').map(str::to_string).collect();
-                let count: i64 = words.last().and_then(|word| word.parse().ok()).unwrap_or(1);
-                let count = match self.draw.below(3) {
-                    0 => (count + 1).to_string(),
-                    1 => (count - 1).to_string(),
-                    _ => self
-                        .pick(&["0", "1", "2", "1200", "1201", "9999999999", "03", "-1", ""])
-                        .to_string(),
-                };
-                *words.last_mut().unwrap() = count;
-                lines[head] = (words.join(" ") + "\n").into_bytes();
-                *book = lines.concat();
+                change_line(book, head, " ", |words| {
+                    let word = words.last_mut().expect("a head has words");
+                    let count: i64 = word.parse().unwrap_or(1);
+                    *word = match self.draw.below(3) {
+                        0 => (count + 1).to_string(),
+                        1 => (count - 1).to_string(),
+                        _ => self
+                            .pick(&["0", "1", "2", "1200", "1201", "9999999999", "03", "-1", ""])
+                            .to_string(),
+                    };
+                });
             }
-            // A value.
-            _ => {
-                let text = String::from_utf8_lossy(&lines[line]).into_owned();
-                let mut words: Vec<&str> = text.trim_end_matches('\n').split(' ').collect();
-                let word = self.draw.below(words.len() as u64) as usize;
-                words[word] = self.pick(&VALUES);
-                lines[line] = (words.join(" ") + "\n").into_bytes();
-                *book = lines.concat();
-            }
+            _ => self.change_value(book, " ", &VALUES),
         }
     }
 
@@ -1077,6 +1181,213 @@ impl<'a> Differ<'a> {
         for room in [length - 1, less, 0, length] {
             self.book(book, Some(room));
         }
+    }
+
+    // ---- Tables ----
+
+    /// A table of so many lines that nothing refuses.
+    fn valid_table(&mut self, lines: usize) -> Vec<u8> {
+        (1..=lines)
+            .map(|month| {
+                let [temperature, rain, evaporation, _] = self.weather();
+                table::line(month, [temperature, rain, evaporation])
+            })
+            .collect::<String>()
+            .into_bytes()
+    }
+
+    /// Other ends of lines, and commas or other marks, in one place or everywhere.
+    fn change_marks(&mut self, text: &mut Vec<u8>) {
+        let (from, to): (u8, &[u8]) = self.pick(&[
+            (b'\n', b"\r\n"),
+            (b'\n', b"\r"),
+            (b'\n', b"\n\n"),
+            (b'.', b","),
+            (b';', b","),
+            (b';', b"; "),
+            (b'.', b""),
+        ]);
+        let parts: Vec<&[u8]> = text.split(|byte| *byte == from).collect();
+        let one = match self.draw.below(2) {
+            0 => None,
+            _ => Some(self.draw.below(parts.len() as u64) as usize),
+        };
+        let mut changed = parts[0].to_vec();
+        for (index, part) in parts[1..].iter().enumerate() {
+            let mark = if one.is_none_or(|one| one == index) {
+                to
+            } else {
+                &[from]
+            };
+            changed.extend([mark, part].concat());
+        }
+        *text = changed;
+    }
+
+    fn damage_table(&mut self, text: &mut Vec<u8>) {
+        const BYTES: &[u8] = b"0123456789;;..-\n\n\r\t ,:/+\x00\x7f\x80\xb1\xffx";
+        // Ends of the ranges and of the form, with their neighbours.
+        const ENDS: [&str; 25] = [
+            "0.0",
+            "0.1",
+            "-0.1",
+            "-0.0",
+            "-0.5",
+            "-39.9",
+            "-40.0",
+            "-40.1",
+            "49.9",
+            "50.0",
+            "50.1",
+            "500.0",
+            "-400.0",
+            "1999.9",
+            "2000.0",
+            "2000.1",
+            "20000.0",
+            "999999999.9",
+            "1000000000.0",
+            "9999999999.9",
+            "-9999999999.9",
+            "10000000000.0",
+            "-10000000000.0",
+            "429496729.6",
+            "429496730.1",
+        ];
+        // Months, and other forms.
+        const VALUES: [&str; 27] = [
+            "922337203685477580.8",
+            "1844674407370955161.6",
+            "18446744073709551617.0",
+            "1",
+            "2",
+            "0",
+            "01",
+            "-1",
+            "12",
+            "1200",
+            "1201",
+            "4294967297",
+            "18446744073709551617",
+            "",
+            "-",
+            ".",
+            "5.",
+            ".5",
+            "-.5",
+            "05.0",
+            "1.25",
+            "+1.0",
+            "1,0",
+            "--1.0",
+            " 1.0",
+            "1.0 ",
+            "1.0;1.0",
+        ];
+        match self.draw.below(20) {
+            0..=5 => self.damage_text(text, BYTES),
+            // The last byte 10 dropped.
+            6 => drop(text.pop()),
+            7 | 8 => self.change_marks(text),
+            // A line's month, by one or to another number.
+            9 | 10 => self.change_some_line(text, ";", |own, line, words| {
+                let month = line as u64 + 1;
+                let other = match own.draw.below(3) {
+                    0 => month - 1,
+                    1 => month + 1,
+                    _ => own.wild(&[month]),
+                };
+                words[0] = other.to_string();
+            }),
+            // One of a line's numbers.
+            11..=17 => self.change_some_line(text, ";", |own, _, words| {
+                let field = 1 + own.draw.below(3) as usize;
+                if let Some(word) = words.get_mut(field) {
+                    *word = own.pick(&ENDS).to_string();
+                }
+            }),
+            _ => self.change_value(text, ";", &VALUES),
+        }
+    }
+
+    /// Drawn tables, good and damaged, each with one room or more.
+    fn tables(&mut self, count: u64) {
+        let mut kinds = [0u64; 4];
+        for done in 0..count {
+            let long = done % 400 == 0;
+            let lines = match self.draw.below(20) {
+                _ if long => self.pick(&[1_199, 1_200, 1_201, 1_200]),
+                0 => 0,
+                1 => 41 + self.draw.below(160) as usize,
+                _ => 1 + self.draw.below(40) as usize,
+            };
+            let mut text = self.valid_table(lines);
+            let damages = match self.draw.below(10) {
+                0..=2 => 0,
+                3..=7 => 1,
+                8 => 2,
+                _ => 3 + self.draw.below(5),
+            };
+            for _ in 0..damages {
+                self.damage_table(&mut text);
+            }
+            kinds[usize::from(damages > 0)] += 1;
+            let exact = table::lines(&text).len() * WEATHER_NUMBERS;
+            let room = match self.draw.below(12) {
+                0 => exact.saturating_sub(1),
+                1 => self.draw.below(exact as u64 + 1) as usize,
+                2 => exact + self.draw.below(30) as usize,
+                3 => exact / WEATHER_NUMBERS * LAND_NUMBERS,
+                _ => exact,
+            };
+            kinds[2 + usize::from(room < exact)] += 1;
+            self.call(&Call::Table { room, table: text });
+        }
+        let [good, damaged, enough, short] = kinds;
+        self.say(format!(
+            "tables: {count}, {good} good and {damaged} damaged, {enough} with room enough and \
+             {short} without; {}",
+            self.answers('T')
+        ));
+    }
+
+    /// Months by an open pan and by evapotranspiration that dry the same, 4 tenths as 3: the
+    /// program gives one answer to both.
+    fn pairs(&mut self, count: u64) {
+        for _ in 0..count {
+            let state = self.state();
+            let number = state[MONTHS] + 1;
+            let mut pan = self.entries(&state);
+            let threes = match self.draw.below(4) {
+                0 => self.pick(&[0, 1, 4_999, 5_000]),
+                _ => self.draw.between(0, 500),
+            };
+            (pan[EVAPORATION], pan[SOURCE]) = (4 * threes, OPEN_PAN);
+            let mut office = pan;
+            (office[EVAPORATION], office[SOURCE]) = (3 * threes, EVAPOTRANSPIRATION);
+            let fill = self.fill();
+            let calls = [pan, office].map(|entries| Call::Month {
+                state,
+                number,
+                entries,
+            });
+            for call in &calls {
+                self.call(call);
+            }
+            let [one, other] = calls
+                .each_ref()
+                .map(|call| program_answer(self.program, call, fill));
+            let same = one.is_ok() && one == other;
+            self.outcome(same, || {
+                format!(
+                    "pan and evapotranspiration: {}\npan:    {one:?}\nother:  {other:?}",
+                    calls[0].line()
+                )
+            });
+        }
+        self.say(format!(
+            "months by open pan and the same by evapotranspiration: {count} pairs"
+        ));
     }
 
     // ---- Wrong lengths ----
@@ -1303,6 +1614,7 @@ impl<'a> Differ<'a> {
         let mut runs: Vec<Enclosure> = (0..RUNS).map(|_| Enclosure::new(&soil)).collect();
         let mut answered = Vec::new();
         let mut accepted = 0;
+        let mut by_office = 0;
         let mut refused_in_turn = 0;
         // The largest distance a call, in thousandths of a gram, at one q and at every q.
         let mut largest = [0u128; 2];
@@ -1336,6 +1648,7 @@ impl<'a> Differ<'a> {
             }
             refused_in_turn = 0;
             accepted += 1;
+            by_office += u64::from(entries.source == EVAPOTRANSPIRATION);
             // N is the recurrence's own.
             let n = runs[0].n(&entries);
             let mut faults = Vec::new();
@@ -1390,8 +1703,12 @@ impl<'a> Differ<'a> {
             }
             if accepted % 40_000 == 0 || accepted == length {
                 self.say(format!(
-                    "long chain ({plan:?}): {accepted} accepted of {} calls, distance up to {} thousandths of a gram a call, all q at once {} (20000 allowed)",
-                    answered.len(), largest[0], largest[1]
+                    "long chain ({plan:?}): {accepted} accepted of {} calls, {by_office} of them \
+                     by evapotranspiration, distance up to {} thousandths of a gram a call, all q \
+                     at once {} (20000 allowed)",
+                    answered.len(),
+                    largest[0],
+                    largest[1]
                 ));
             }
         }
@@ -1399,6 +1716,29 @@ impl<'a> Differ<'a> {
             format!("the long chain stopped after {accepted} accepted: {state:?}")
         });
     }
+}
+
+/// A text with one line's words changed.
+fn change_line(
+    text: &mut Vec<u8>,
+    line: usize,
+    between: &str,
+    change: impl FnOnce(&mut Vec<String>),
+) {
+    let mut lines = lines_of(text);
+    let own = String::from_utf8_lossy(&lines[line]).into_owned();
+    let words = own.trim_end_matches('\n').split(between);
+    let mut words: Vec<String> = words.map(str::to_string).collect();
+    change(&mut words);
+    lines[line] = (words.join(between) + "\n").into_bytes();
+    *text = lines.concat();
+}
+
+/// A text's lines, each with the byte 10 that ends it.
+fn lines_of(text: &[u8]) -> Vec<Vec<u8>> {
+    text.split_inclusive(|byte| *byte == 10)
+        .map(<[u8]>::to_vec)
+        .collect()
 }
 
 fn push_row<T: ToString>(text: &mut String, row: &[T]) {
@@ -1487,6 +1827,9 @@ mod tests {
             });
             write(row, &answer[1..8]);
             write(state, &answer[8..]);
+            if self.slip == "source" && entries[SOURCE] == 1 && answer[0] == 0 {
+                state[DEFICIT] = state[DEFICIT].saturating_sub(1);
+            }
             if self.slip == "a gram" && answer[0] == 0 && lent[CLAY] == 77 {
                 state[CO2] += 1;
             }
@@ -1566,6 +1909,26 @@ mod tests {
             number
         }
 
+        fn table(
+            &mut self,
+            table: &[u8],
+            weather: &mut [i64],
+            rows: &mut u64,
+            place: &mut u64,
+        ) -> u64 {
+            let answer = table::read(table, weather);
+            let refusal = answer.err();
+            *rows = answer.unwrap_or(0);
+            *place = refusal.map_or(0, |refusal| refusal.place);
+            if self.slip == "table's row" && *place > 1 {
+                weather[0] = 0;
+            }
+            if self.slip == "table's end" && *place == table::lines(table).len() as u64 {
+                *place += 1;
+            }
+            refusal.map_or(0, |refusal| refusal.cause.number() as u64)
+        }
+
         fn survival(&mut self, n: u64, pool: u64) -> u64 {
             if pool > 3 || n > LARGEST_N {
                 return NO_SURVIVAL;
@@ -1583,6 +1946,8 @@ mod tests {
             lists: 200,
             spin_ups: 30,
             books: 1_000,
+            tables: 2_000,
+            pairs: 300,
             chain: 1_500,
         });
         if slip.is_empty() {
@@ -1596,11 +1961,12 @@ mod tests {
         let (compared, differ, seen) = compare("");
         assert_eq!(differ, 0);
         assert!(compared > 15_000);
-        let wanted: [(char, &[u64]); 5] = [
+        let wanted: [(char, &[u64]); 6] = [
             ('N', &[0, 4, 5, 6, 7]),
-            ('M', &[0, 4, 5, 6, 7, 10, 11, 12, 13, 14, 15, 16, 17]),
-            ('L', &[0, 3, 4, 5, 6, 7, 8, 10, 12, 13, 14, 15, 16, 17]),
-            ('S', &[0, 3, 4, 5, 6, 7, 9, 10, 12, 13, 14, 15, 16, 17]),
+            ('M', &[0, 4, 5, 6, 7, 10, 11, 12, 13, 14, 19, 15, 16, 17]),
+            ('L', &[0, 3, 4, 5, 6, 7, 8, 10, 12, 13, 14, 19, 15, 16, 17]),
+            ('S', &[0, 3, 4, 5, 6, 7, 9, 10, 12, 13, 14, 19, 15, 16, 17]),
+            ('T', &[0, 3, 8, 13, 14, 18]),
             ('B', &[0, 1, 2, 3, 4, 5, 6, 7, 8, 13, 14, 15, 16, 17]),
         ];
         for (letter, numbers) in wanted {
@@ -1620,6 +1986,9 @@ mod tests {
             "rest",
             "line",
             "length",
+            "source",
+            "table's row",
+            "table's end",
         ] {
             let (_, differ, _) = compare(slip);
             assert!(differ > 0, "{slip}");

@@ -11,4 +11,5 @@ pub mod fixed;
 pub mod fraction;
 pub mod model;
 pub mod recurrence;
+pub mod table;
 pub mod vectors;

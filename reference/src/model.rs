@@ -11,14 +11,21 @@ pub const MONTH_LIMIT: u64 = 120_000;
 pub const MONTH_ADDITIONS: u128 = 200_000_000;
 /// Most rows of a list, and the highest count in a book (3).
 pub const ROW_LIMIT: usize = 1_200;
-/// Numbers in a weather or land row.
-pub const ROW_NUMBERS: usize = 3;
+/// Numbers in a weather row: temperature, rain, evaporation and its source.
+pub const WEATHER_NUMBERS: usize = 4;
+/// Numbers in a land row: cover, plant, manure.
+pub const LAND_NUMBERS: usize = 3;
 /// Numbers in an output row: five pools, the month's CO2, D.
 pub const OUTPUT_NUMBERS: usize = 7;
 /// Most years of a spin-up (9).
 pub const YEAR_LIMIT: i128 = 10_000;
 /// A spin-up year settles at this change of the total or less, in grams.
 pub const SETTLED: u128 = 1_000;
+
+/// The sources of a month's evaporation (19): an open pan, as in books, or potential
+/// evapotranspiration, as in the weather office's tables.
+pub const OPEN_PAN: i64 = 0;
+pub const EVAPOTRANSPIRATION: i64 = 1;
 
 /// The active pools by index.
 pub const DPM: usize = 0;
@@ -60,6 +67,8 @@ pub struct Entries {
     pub temperature: i64,
     pub rain: i64,
     pub evaporation: i64,
+    /// Where the evaporation comes from: 0 open pan, 1 potential evapotranspiration.
+    pub source: i64,
     pub cover: i64,
     pub plant: i64,
     pub manure: i64,
@@ -85,6 +94,8 @@ pub enum Cause {
     Cover = 15,
     Addition = 16,
     Ceiling = 17,
+    TableLine = 18,
+    Source = 19,
 }
 
 impl Cause {
@@ -93,7 +104,7 @@ impl Cause {
     }
 }
 
-/// A cause with its place: line in a book, month in a list or spin-up, else 0.
+/// A cause with its place: line in a book or table, month in a list or spin-up, else 0.
 #[derive(Clone, Copy, Debug, PartialEq, Eq)]
 pub struct Refusal {
     pub cause: Cause,
@@ -206,18 +217,22 @@ pub fn check_land(cover: i64, plant: i64, manure: i64, active: u128) -> Result<(
     Ok(())
 }
 
-/// Refusals 12 to 17, as a month of a list or spin-up meets them.
+/// Refusals of a month's entries in their order: 13, 14, 19, 15, 16, 17. `active`: the active pools
+/// before the month.
+pub fn check_entries(entries: &Entries, active: u128) -> Result<(), Cause> {
+    check_weather(entries.temperature, entries.rain, entries.evaporation)?;
+    if ![OPEN_PAN, EVAPOTRANSPIRATION].contains(&entries.source) {
+        return Err(Cause::Source);
+    }
+    check_land(entries.cover, entries.plant, entries.manure, active)
+}
+
+/// Refusal 12 and those of the entries, as a month of a list or spin-up meets them.
 fn check_month(state: &State, entries: &Entries) -> Result<(), Cause> {
     if state.months >= MONTH_LIMIT {
         return Err(Cause::MonthsDone);
     }
-    check_weather(entries.temperature, entries.rain, entries.evaporation)?;
-    check_land(
-        entries.cover,
-        entries.plant,
-        entries.manure,
-        state.soil.active(),
-    )
+    check_entries(entries, state.soil.active())
 }
 
 /// Steps 1 to 4 without S: the month's rate factors and its new deficit.
@@ -235,10 +250,20 @@ pub struct Factors {
     pub deficit: i128,
 }
 
+/// Step 3: the month's drying in parts. A tenth of potential evapotranspiration dries as a tenth of
+/// rain wets; an open pan's dries 0.75 of that.
+pub fn drying(entries: &Entries) -> i128 {
+    let a_tenth = match entries.source {
+        OPEN_PAN => 155_250,
+        EVAPOTRANSPIRATION => 207_000,
+        _ => panic!("a source that 19 doesn't refuse"),
+    };
+    a_tenth * entries.evaporation as i128 - 207_000 * entries.rain as i128
+}
+
 /// Step 3: the new deficit.
-pub fn new_deficit(soil: &Soil, deficit: i128, rain: i64, evaporation: i64, cover: i64) -> i128 {
+pub fn new_deficit(soil: &Soil, deficit: i128, drying: i128, cover: i64) -> i128 {
     let limit = soil.deficit_limit();
-    let drying = 155_250 * evaporation as i128 - 207_000 * rain as i128;
     // 5/9 of M is whole: M has the factor 9.
     let cap = if cover == 1 {
         limit
@@ -259,17 +284,11 @@ pub fn moisture_factor(soil: &Soil, deficit: i128) -> u64 {
     (2_000 + (2 * top + bottom).div_euclid(2 * bottom)) as u64
 }
 
-/// Steps 1 to 4 for entries that 13 to 15 don't refuse.
+/// Steps 1 to 4 for entries that 13, 14, 19 and 15 don't refuse.
 pub fn factors(soil: &Soil, deficit: i128, entries: &Entries) -> Factors {
     let temperature = temperature_factor(entries.temperature);
     let clay = clay_factor(soil.clay as i64);
-    let deficit = new_deficit(
-        soil,
-        deficit,
-        entries.rain,
-        entries.evaporation,
-        entries.cover,
-    );
+    let deficit = new_deficit(soil, deficit, drying(entries), entries.cover);
     let moisture = moisture_factor(soil, deficit);
     let n = temperature * moisture * if entries.cover == 1 { 6 } else { 10 };
     Factors {
@@ -359,7 +378,7 @@ pub fn run_month(state: &State, entries: &Entries, survival: &mut dyn Survival) 
     (next, row)
 }
 
-/// Refusals of a single month call, in order: 4 to 7, 10, 11, 12 to 17.
+/// Refusals of a single month call, in order: 4 to 7, 10, 11, 12, then those of its entries.
 pub fn check_call(state: &State, number: i128, entries: &Entries) -> Result<(), Cause> {
     state.soil.check()?;
     state.check_numbers()?;
@@ -390,30 +409,30 @@ pub type Watch<'a> = &'a mut dyn FnMut(&State, &Entries);
 
 /// The entries of month j (from 1) of a list: land row j, weather row ((j - 1) mod rows) + 1.
 pub fn list_entries(weather: &[i64], land: &[i64], j: usize) -> Entries {
-    let rows = weather.len() / ROW_NUMBERS;
-    let w = (j - 1) % rows * ROW_NUMBERS;
-    let l = (j - 1) * ROW_NUMBERS;
+    let rows = weather.len() / WEATHER_NUMBERS;
+    let w = (j - 1) % rows * WEATHER_NUMBERS;
+    let l = (j - 1) * LAND_NUMBERS;
     Entries {
         temperature: weather[w],
         rain: weather[w + 1],
         evaporation: weather[w + 2],
+        source: weather[w + 3],
         cover: land[l],
         plant: land[l + 1],
         manure: land[l + 2],
     }
 }
 
-/// Refusal 3 for one list.
-fn list_count(numbers: &[i64]) -> Result<(), Cause> {
-    if numbers.len() % ROW_NUMBERS != 0 || !(1..=ROW_LIMIT).contains(&(numbers.len() / ROW_NUMBERS))
-    {
+/// Refusal 3 for one list with so many numbers a row.
+fn list_count(numbers: &[i64], a_row: usize) -> Result<(), Cause> {
+    if numbers.len() % a_row != 0 || !(1..=ROW_LIMIT).contains(&(numbers.len() / a_row)) {
         return Err(Cause::Count);
     }
     Ok(())
 }
 
 /// Step 7: a list of months. Rows go to the front of `output`; the rest stays as it was.
-/// Order: 3, 4 to 7, 8, 10 with place 0, then month by month 12 to 17.
+/// Order: 3, 4 to 7, 8, 10 with place 0, then month by month 12 and those of its entries.
 /// Refused at month j it returns the state after j - 1 months, with those rows written.
 pub fn list(
     state: &State,
@@ -433,10 +452,10 @@ pub fn list_watched(
     survival: &mut dyn Survival,
     watch: Watch,
 ) -> (State, Result<(), Refusal>) {
-    let rows = land.len() / ROW_NUMBERS;
+    let rows = land.len() / LAND_NUMBERS;
     let outside = || -> Result<(), Cause> {
-        list_count(weather)?;
-        list_count(land)?;
+        list_count(weather, WEATHER_NUMBERS)?;
+        list_count(land, LAND_NUMBERS)?;
         state.soil.check()?;
         if output.len() < rows * OUTPUT_NUMBERS {
             return Err(Cause::OutputTooShort);
@@ -473,8 +492,8 @@ pub enum Spun {
     Unsettled(u64),
 }
 
-/// Spin-up. Order: 3, 4 to 7, 9, 10 with place 0, then month by month 12 to 17,
-/// the place counted over all years. A refusal returns the starting state.
+/// Spin-up. Order: 3, 4 to 7, 9, 10 with place 0, then month by month 12 and those of its
+/// entries, the place counted over all years. A refusal returns the starting state.
 pub fn spin_up(
     state: &State,
     weather: &[i64],
@@ -494,7 +513,7 @@ pub fn spin_up_watched(
     watch: Watch,
 ) -> (State, Result<Spun, Refusal>) {
     let outside = || -> Result<(), Cause> {
-        if weather.len() != 12 * ROW_NUMBERS || land.len() != 12 * ROW_NUMBERS {
+        if weather.len() != 12 * WEATHER_NUMBERS || land.len() != 12 * LAND_NUMBERS {
             return Err(Cause::Count);
         }
         state.soil.check()?;
@@ -558,6 +577,7 @@ mod tests {
         temperature: 34,
         rain: 740,
         evaporation: 80,
+        source: OPEN_PAN,
         cover: 0,
         plant: 0,
         manure: 0,
@@ -603,6 +623,16 @@ mod tests {
         assert_eq!(moisture_factor(&round, 80_000_000), 9_994);
     }
 
+    /// The new deficit of a month by open pan.
+    fn by_pan(soil: &Soil, deficit: i128, rain: i64, evaporation: i64, cover: i64) -> i128 {
+        let entries = Entries {
+            rain,
+            evaporation,
+            ..JANUARY
+        };
+        new_deficit(soil, deficit, drying(&entries), cover)
+    }
+
     #[test]
     fn exact_half_goes_up() {
         let half = soil(100, 23, 1, [0; 4], 0);
@@ -613,7 +643,7 @@ mod tests {
         assert_eq!(moisture_factor(&half, d), 3_563);
         assert_eq!(moisture_factor(&half, d + 1), 3_562);
         // One month under a crop reaches it.
-        assert_eq!(new_deficit(&half, 0, 2, 383, 1), d);
+        assert_eq!(by_pan(&half, 0, 2, 383, 1), d);
     }
 
     #[test]
@@ -621,13 +651,41 @@ mod tests {
         let s = hoosfield();
         let (m, bare) = (s.deficit_limit(), s.deficit_limit() / 9 * 5);
         assert_eq!(bare * 9, m * 5);
-        assert_eq!(new_deficit(&s, 0, 0, 20_000, 0), bare);
-        assert_eq!(new_deficit(&s, 0, 0, 20_000, 1), m);
-        assert_eq!(new_deficit(&s, m, 0, 500, 0), m);
-        assert_eq!(new_deficit(&s, m - 5, 0, 500, 0), m - 5);
-        assert_eq!(new_deficit(&s, m, 100, 0, 0), m - 20_700_000);
-        assert_eq!(new_deficit(&s, m, 20_000, 0, 0), 0);
-        assert_eq!(new_deficit(&s, bare, 0, 0, 0), bare);
+        assert_eq!(by_pan(&s, 0, 0, 20_000, 0), bare);
+        assert_eq!(by_pan(&s, 0, 0, 20_000, 1), m);
+        assert_eq!(by_pan(&s, m, 0, 500, 0), m);
+        assert_eq!(by_pan(&s, m - 5, 0, 500, 0), m - 5);
+        assert_eq!(by_pan(&s, m, 100, 0, 0), m - 20_700_000);
+        assert_eq!(by_pan(&s, m, 20_000, 0, 0), 0);
+        assert_eq!(by_pan(&s, bare, 0, 0, 0), bare);
+    }
+
+    /// Evapotranspiration dries without the 0.75: 3 of its tenths as 4 of the pan's.
+    #[test]
+    fn sources_of_evaporation() {
+        let entries = |rain: i64, evaporation: i64, source: i64| Entries {
+            rain,
+            evaporation,
+            source,
+            ..JANUARY
+        };
+        assert_eq!(drying(&entries(0, 1, OPEN_PAN)), 155_250);
+        assert_eq!(drying(&entries(0, 1, EVAPOTRANSPIRATION)), 207_000);
+        assert_eq!(drying(&entries(7, 7, EVAPOTRANSPIRATION)), 0);
+        assert_eq!(drying(&entries(20_000, 0, 1)), -4_140_000_000);
+        assert_eq!(drying(&entries(0, 20_000, 1)), 4_140_000_000);
+        let state = State::new(hoosfield());
+        for threes in 0..=5_000 {
+            let (pan, other) = (
+                entries(50, 4 * threes, OPEN_PAN),
+                entries(50, 3 * threes, EVAPOTRANSPIRATION),
+            );
+            assert_eq!(drying(&pan), drying(&other));
+            assert_eq!(
+                month(&state, 1, &pan, &mut Nearest),
+                month(&state, 1, &other, &mut Nearest)
+            );
+        }
     }
 
     #[test]
@@ -679,6 +737,7 @@ mod tests {
             temperature: i64::MIN,
             rain: i64::MIN,
             evaporation: i64::MAX,
+            source: i64::MIN,
             cover: i64::MIN,
             plant: i64::MAX,
             manure: i64::MAX,
@@ -720,6 +779,11 @@ mod tests {
             evaporation: 20_000,
             ..wrong
         };
+        for source in [i64::MIN, -1, 2, i64::MAX] {
+            let wrong = Entries { source, ..wrong };
+            assert_eq!(cause(&bad, 120_000, &wrong), Some(19));
+        }
+        let wrong = Entries { source: 1, ..wrong };
         assert_eq!(cause(&bad, 120_000, &wrong), Some(15));
         let wrong = Entries { cover: 1, ..wrong };
         assert_eq!(cause(&bad, 120_000, &wrong), Some(16));
@@ -742,7 +806,7 @@ mod tests {
     #[test]
     fn lists() {
         let state = State::new(soil(0, 1, 2, [10, 20, 30, 40], 5));
-        let weather = [-60, 0, 0, 501, 0, 0];
+        let weather = [-60, 0, 0, 0, 501, 0, 0, 0];
         let land = [0, 1, 2, 1, 0, 0];
         let run = |state: &State, weather: &[i64], land: &[i64], output: &mut [u64]| {
             let (next, answer) = list(state, weather, land, output, &mut Nearest);
@@ -764,18 +828,30 @@ mod tests {
         let (next, refused) = run(&state, &weather, &land, &mut output);
         assert_eq!((refused, next.months), (Some((13, 2)), 1));
         assert_eq!(output, [10, 23, 30, 40, 5, 0, 0, 9, 9, 9, 9, 9, 9, 9, 9, 9]);
+        // 19 has its month's place, after 14 and before 15.
+        let mut output = [9; 16];
+        let sources = [-60, 0, 0, 1, -60, 0, 0, 2];
+        let faulty = [0, 1, 2, 2, -1, 0];
+        let (next, refused) = run(&state, &sources, &faulty, &mut output);
+        assert_eq!((refused, next.months), (Some((19, 2)), 1));
+        let sources = [-60, 0, 0, 1, -60, 0, -1, 2];
+        let (_, refused) = run(&state, &sources, &faulty, &mut output);
+        assert_eq!(refused, Some((14, 2)));
         // 3 before all, 8 before 10.
         let none: [i64; 0] = [];
         for (w, l) in [
+            (&weather[..3], &land[..]),
             (&weather[..5], &land[..]),
+            (&weather[..6], &land[..]),
             (&weather[..], &land[..4]),
             (&none[..], &land[..]),
             (&weather[..], &none[..]),
         ] {
             assert_eq!(run(&state, w, l, &mut []).1, Some((3, 0)));
         }
-        let long = vec![0; 3 * 1201];
+        let long = vec![0; 4 * 1201];
         assert_eq!(run(&state, &long, &land, &mut output).1, Some((3, 0)));
+        let long = vec![0; 3 * 1201];
         assert_eq!(run(&state, &weather, &long, &mut output).1, Some((3, 0)));
         let dry = State {
             deficit: -1,
@@ -804,7 +880,7 @@ mod tests {
         let (next, refused) = run(&done, &weather, &land, &mut output);
         assert_eq!((refused, next), (Some((12, 1)), done));
         // Weather wraps round.
-        let weather = [-60, 0, 100, -60, 0, 1];
+        let weather = [-60, 0, 100, 0, -60, 0, 1, 0];
         let land = [1, 0, 0].repeat(3);
         let mut output = [0; 21];
         assert_eq!(run(&state, &weather, &land, &mut output).1, None);
@@ -818,11 +894,15 @@ mod tests {
             [output[6], output[13], output[20]],
             [15_525_000, 15_680_250, 31_205_250]
         );
+        // The second row by evapotranspiration.
+        let weather = [-60, 0, 100, 0, -60, 0, 1, 1];
+        assert_eq!(run(&deep, &weather, &land, &mut output).1, None);
+        assert_eq!([output[6], output[13]], [15_525_000, 15_732_000]);
     }
 
     #[test]
     fn spin_ups() {
-        let frost: Vec<i64> = [-60, 0, 0].repeat(12);
+        let frost: Vec<i64> = [-60, 0, 0, 0].repeat(12);
         let bare: Vec<i64> = [0, 0, 0].repeat(12);
         let state = State::new(soil(0, 1, 2, [10, 20, 30, 40], 5));
         let (next, answer) = spin_up(&state, &frost, &bare, 10, &mut Nearest);
@@ -847,7 +927,9 @@ mod tests {
                 .err()
                 .map(|refusal| (refusal.cause.number(), refusal.place))
         };
-        assert_eq!(refused(&state, &frost[..33], &bare, 0), Some((3, 0)));
+        assert_eq!(refused(&state, &frost[..44], &bare, 0), Some((3, 0)));
+        assert_eq!(refused(&state, &frost[..36], &bare, 0), Some((3, 0)));
+        assert_eq!(refused(&state, &frost, &[0; 48], 0), Some((3, 0)));
         assert_eq!(refused(&state, &frost, &[0; 39], 0), Some((3, 0)));
         let deep = State {
             soil: soil(0, 101, 2, [0; 4], 0),
@@ -863,6 +945,9 @@ mod tests {
             assert_eq!(refused(&dry, &frost, &bare, years), Some((9, 0)));
         }
         assert_eq!(refused(&dry, &frost, &bare, 10_000), Some((10, 0)));
+        let mut other = frost.clone();
+        other[4 * 4 + 3] = 2;
+        assert_eq!(refused(&state, &other, &bare, 10), Some((19, 5)));
         // Year 4, month 5 is 41: 300 grams short of the ceiling after three years and four months.
         let mut land = bare.clone();
         land[12 + 1] = 100_000_000;
@@ -899,7 +984,7 @@ mod tests {
                 .wrapping_add(1_442_695_040_888_963_407);
             (seed >> 33) % limit
         };
-        let mut seen = [0u32; 18];
+        let mut seen = [0u32; 20];
         for _ in 0..20_000 {
             let mut any = |common: u64| match draw(12) {
                 0 => u64::MAX - draw(3),
@@ -923,13 +1008,20 @@ mod tests {
                 temperature: any(500) as i64,
                 rain: any(20_000) as i64,
                 evaporation: any(20_000) as i64,
+                source: any(1) as i64,
                 cover: any(1) as i64,
                 plant: any(100_000_000) as i64,
                 manure: any(100_000_000) as i64,
             };
             let number = state.months as i128 + i128::from(any(9) > 0);
             seen[cause(&state, number, &entries).unwrap_or(0) as usize] += 1;
-            let weather = [entries.temperature, entries.rain, entries.evaporation].repeat(12);
+            let weather = [
+                entries.temperature,
+                entries.rain,
+                entries.evaporation,
+                entries.source,
+            ]
+            .repeat(12);
             let land = [entries.cover, entries.plant, entries.manure].repeat(12);
             let mut output = [7; 90];
             let (next, answer) = list(&state, &weather, &land, &mut output, &mut Nearest);
@@ -947,7 +1039,7 @@ mod tests {
                 }
             }
         }
-        for number in [0, 4, 5, 6, 7, 10, 11, 13, 14, 15, 16, 17] {
+        for number in [0, 4, 5, 6, 7, 10, 11, 13, 14, 19, 15, 16, 17] {
             assert!(seen[number] > 0, "refusal {number}");
         }
     }

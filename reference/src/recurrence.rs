@@ -4,8 +4,8 @@ use crate::big::{Integer, Natural};
 use crate::exponential::BILLION;
 use crate::fraction::Fraction;
 use crate::model::{
-    check_call, check_land, check_weather, factors, month, plant_share, Entries, Soil, State,
-    Survival, BIO, DPM, HUM, RATES, RPM,
+    check_call, check_entries, factors, month, plant_share, Entries, Soil, State, Survival, BIO,
+    DPM, HUM, RATES, RPM,
 };
 use std::cmp::Ordering;
 
@@ -339,8 +339,7 @@ pub fn acceptance_right(states: &[State], numbers: &[i128], calls: &[Call]) -> b
 
 /// Can steps 1 to 6 be done with these entries? An accepted call where they can't is a fault.
 fn defined(entries: &Entries) -> bool {
-    check_weather(entries.temperature, entries.rain, entries.evaporation).is_ok()
-        && check_land(entries.cover, entries.plant, entries.manure, 0).is_ok()
+    check_entries(entries, 0).is_ok()
 }
 
 /// Demand 3 (a): active pools plus CO2 to date are, to the gram, the starting active pools plus
@@ -460,7 +459,7 @@ fn enclose(
 mod tests {
     use super::*;
     use crate::exponential::{allowed_range, survival_nearest};
-    use crate::model::Nearest;
+    use crate::model::{Nearest, EVAPOTRANSPIRATION, OPEN_PAN};
 
     struct Draw(u64);
     impl Draw {
@@ -477,6 +476,7 @@ mod tests {
             temperature: draw.below(560) as i64 - 60,
             rain: draw.below(1200) as i64,
             evaporation: draw.below(1600) as i64,
+            source: draw.below(2) as i64,
             cover: draw.below(2) as i64,
             plant: draw.below(largest) as i64,
             manure: draw.below(largest) as i64,
@@ -635,6 +635,7 @@ mod tests {
             temperature: 0,
             rain: 0,
             evaporation: 0,
+            source: OPEN_PAN,
             cover: 0,
             plant: 10,
             manure: 100,
@@ -675,6 +676,7 @@ mod tests {
             temperature: 93,
             rain: 500,
             evaporation: 500,
+            source: OPEN_PAN,
             cover: 0,
             plant: 0,
             manure: 50_000,
@@ -701,6 +703,26 @@ mod tests {
             distance_exact(&soil, &answered, &later, &mut Nearest, &mut same),
             Decision::Fails
         );
+        // Evapotranspiration taken for an open pan's: the recurrence, fed the pan, stays wet where
+        // the program's months dry out.
+        let dry = Entries {
+            evaporation: 600,
+            source: EVAPOTRANSPIRATION,
+            cover: 1,
+            ..entries
+        };
+        let dry: Vec<(i128, Entries)> = (1..=24).map(|number| (number, dry)).collect();
+        let (office, dried) = run_calls(&soil, &dry, &mut Nearest);
+        let mut pan = office.clone();
+        for call in &mut pan {
+            call.entries.source = OPEN_PAN;
+        }
+        for (calls, decision) in [(&office, Decision::Holds), (&pan, Decision::Fails)] {
+            assert_eq!(
+                distance_every_q(&soil, calls, &dried, &mut Nearest),
+                decision
+            );
+        }
         // No decay at all.
         let mut idle = State::new(soil.clone());
         idle.soil.pools[RPM] += 24 * 50_000;

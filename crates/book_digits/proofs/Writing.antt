@@ -59,33 +59,34 @@ module _ {A : Type 0} where
       ap (λ (k : ℕ). getD (overwritten (set list at x) (suc at) xs) k d) (omega arith)
       ∙ overwritten-there (set list at x) (suc at) xs c d (omega (arith, length-set list at x)) (omega arith)
 
--- A copy of bytes on the way: what is left to put makes the whole.
-pub record Copying (whole : List ℕ) (at : ℕ) (bytes out : List ℕ) (i : ℕ) : Type 0 where
-  pub within : i ≤ length bytes
+-- A copy of values on the way: what is left to put makes the whole.
+pub record Copying {A : Type 0} (whole : List A) (at : ℕ) (values out : List A) (i : ℕ) : Type 0 where
+  pub within : i ≤ length values
   pub same : length out ≡ length whole
-  pub rest : overwritten out (at + i) (drop i bytes) ≡ overwritten whole at bytes
+  pub rest : overwritten out (at + i) (drop i values) ≡ overwritten whole at values
 
-pub begun : (out : List ℕ) (at : ℕ) (bytes : List ℕ) → Copying out at bytes out 0
-begun out at bytes =
-    record { within = omega arith; same = refl; rest = ap (λ (k : ℕ). overwritten out k bytes) (add-zero at) }
+module _ {A : Type 0} where
+  pub begun : (out : List A) (at : ℕ) (values : List A) → Copying out at values out 0
+  begun out at values =
+      record { within = omega arith; same = refl; rest = ap (λ (k : ℕ). overwritten out k values) (add-zero at) }
 
-pub copied : (whole : List ℕ) (at : ℕ) (bytes out : List ℕ) (i : ℕ) → Copying whole at bytes out i → i < length bytes →
-    Copying whole at bytes (set out (at + i) (getD bytes i 0)) (i + 1)
-unfolding overwritten
-copied whole at bytes out i c h =
-    record {
-      within = omega arith;
-      same = length-set out (at + i) (getD bytes i 0) ∙ c .same;
-      rest =
-          ap₂ (λ (k j : ℕ). overwritten (set out (at + i) (getD bytes i 0)) k (drop j bytes)) (omega arith) (add-one i)
-          ∙ sym (ap (overwritten out (at + i)) (drop-cons bytes i 0 h))
-          ∙ c .rest;
-    }
+  pub copied : (whole : List A) (at : ℕ) (values out : List A) (i : ℕ) (d : A) → Copying whole at values out i → i < length values →
+      Copying whole at values (set out (at + i) (getD values i d)) (i + 1)
+  unfolding overwritten
+  copied whole at values out i d c h =
+      record {
+        within = omega arith;
+        same = length-set out (at + i) (getD values i d) ∙ c .same;
+        rest =
+            ap₂ (λ (k j : ℕ). overwritten (set out (at + i) (getD values i d)) k (drop j values)) (omega arith) (add-one i)
+            ∙ sym (ap (overwritten out (at + i)) (drop-cons values i d h))
+            ∙ c .rest;
+      }
 
-pub finished : (whole : List ℕ) (at : ℕ) (bytes out : List ℕ) (i : ℕ) → Copying whole at bytes out i →
-    length bytes ≤ i → out ≡ overwritten whole at bytes
-unfolding overwritten
-finished whole at bytes out i c h = sym (ap (overwritten out (at + i)) (drop-of-length-le bytes h)) ∙ c .rest
+  pub finished : (whole : List A) (at : ℕ) (values out : List A) (i : ℕ) → Copying whole at values out i →
+      length values ≤ i → out ≡ overwritten whole at values
+  unfolding overwritten
+  finished whole at values out i c h = sym (ap (overwritten out (at + i)) (drop-of-length-le values h)) ∙ c .rest
 
 -- A number's last digit, or its only one, put after those of its tenth.
 pub written-small : (out : List ℕ) (at n : ℕ) → n < 10 → set out at (48 + n) ≡ overwritten out at (decimal n)

@@ -18,10 +18,14 @@ digitsOf (suc most) n =
 unfoldable pub decimal : ℕ → List ℕ
 decimal n = digitsOf (suc n) n
 
--- The same of a number with a sign: a minus before one below 0.
+-- A number with a sign, by the form of numbers without one: a minus (byte 45) before one below 0.
+abbrev pub signedText : (ℕ → List ℕ) → ℤ → List ℕ
+signedText text (pos n) = text n
+signedText text (negsuc n) = 45 ∷ text (suc n)
+
+-- The decimal form of a number with a sign.
 unfoldable pub signedDecimal : ℤ → List ℕ
-signedDecimal (pos n) = decimal n
-signedDecimal (negsuc n) = 45 ∷ decimal (suc n)
+signedDecimal z = signedText decimal z
 
 -- "One space between values": a space (byte 32) and a number after it.
 abbrev pub spaced : ℕ → List ℕ

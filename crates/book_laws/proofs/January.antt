@@ -10,17 +10,18 @@ use borrow.Author.Tests.{lt-ltb, le-ltb}
 use lib.IntN.{pos}
 use Rattle.step_pools.specs.Pools.{total}
 use Rattle.month_refusals.specs.Asked.{firstOf}
-use Rattle.month_refusals.specs.Refusals.{clayOutside, depthOutside, kindOther, carbonAbove, temperatureOutside, waterOutside}
+use Rattle.month_refusals.specs.Refusals.{clayOutside, depthOutside, kindOther, carbonAbove, temperatureOutside, waterOutside, sourceOutside}
 use Rattle.month_refusals.specs.Refusals.{soilAsked, weatherAsked}
 use Rattle.book_digits.specs.Digits.{digitsOf, decimal, signedDecimal}
 use Rattle.book_digits.proofs.Digits.{decimal-small, decimal-large}
 use Rattle.book_rows.specs.Rows.{weatherOf, landOf}
 use Rattle.book_lines.specs.LineText.{headText, soilText, weatherText, landText}
-use Rattle.book_laws.specs.BookText.{bookText, WellFormed, Written, none, more}
+use Rattle.book_rows.specs.RowText.{none, more}
+use Rattle.book_laws.specs.BookText.{bookText, WellFormed, Written}
 use Rattle.book_laws.specs.January.{january, januaryText}
 
 pub january-good : WellFormed january
-unfolding january firstOf soilAsked clayOutside depthOutside kindOther carbonAbove total weatherAsked temperatureOutside waterOutside
+unfolding january firstOf soilAsked clayOutside depthOutside kindOther carbonAbove total weatherAsked temperatureOutside waterOutside sourceOutside
 january-good =
     record {
       soil = refl;

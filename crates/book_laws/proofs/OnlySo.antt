@@ -1,10 +1,11 @@
 -- ONLY SO: a book that finishes is the text of well-formed numbers, and so it ran as step 7's list of them: no other form is taken.
--- One that doesn't is refused by one of 1 to 7 and 13 to 17.
+-- One that doesn't is refused by one of 1 to 7 and 13 to 17: 13 and 14 on a weather line, 15 to 17 in a month.
 -- Assumes nothing.
 use mathlib.Core.Path.{_≡_, refl, _∙_, ap}
 use mathlib.Core.Bool.{Bool, true, false, cond}
 use mathlib.Core.List.{List, [], _++_, flatMap, append-nil}
-use Prim.Native.Nat.{ℕ, _+_, _*_, _≤_, _<_}
+use Prim.Native.Nat.{ℕ, zero, suc, _+_, _*_, _%_, _≤_, _<_}
+use native.Mathlib.Nat.{mod-lt}
 use native.Mathlib.Omega.{arith}
 use borrow.Author.Tests.{ltb-false, lt-leb, eqb-true, not-false}
 use lib.Dec.{ltb, eqb}
@@ -18,17 +19,20 @@ use Rattle.month_state.specs.declared.Entries.{Entries}
 use Rattle.month_state.specs.declared.Weather.{Weather}
 use Rattle.month_state.specs.declared.Land.{Land}
 use Rattle.month_state.specs.State.{monthLimit, newState}
-use Rattle.list_rows.specs.Rows.{landWidth}
+use Rattle.list_rows.specs.Rows.{weatherWidth, landWidth, weatherFrom, weatherNumbers, landNumbers}
+use Rattle.list_rows.proofs.Layouts.{weather-of-length, weather-back, weather-past}
 use Rattle.month_refusals.specs.declared.Check.{Check}
 use Rattle.month_refusals.specs.declared.Check.the-variants.{Pass, Refuse}
 use Rattle.month_refusals.specs.declared.Refusal.{Refusal}
 use Rattle.month_refusals.specs.declared.Refusal.the-variants.{Length, Rows, Form}
 use Rattle.month_refusals.specs.Asked.{firstOf}
-use Rattle.month_refusals.specs.Refusals.{limitReached, soilAsked, weatherAsked, landAsked, carbonAsked, entriesAsked, soilCheck, entriesCheck}
+use Rattle.month_refusals.specs.Refusals.{limitReached, soilAsked, weatherAsked, landAsked, carbonAsked, entriesAsked}
+use Rattle.month_refusals.specs.Refusals.{soilCheck, weatherCheck, entriesCheck}
+use Rattle.month_refusals.proofs.First.{finds-own, first-append}
 use Rattle.month_state.proofs.Tests.{either-false}
 use Rattle.month_call.specs.declared.Answer.the-variants as month
 use Rattle.month_call.specs.Month.{outcomeOf, listMonth}
-use Rattle.list_rows.specs.Rows.{landRows, entriesAt}
+use Rattle.list_rows.specs.Rows.{weatherRows, landRows, entriesAt}
 use Rattle.list_run.specs.declared.ListAnswer.{ListAnswer}
 use Rattle.list_run.specs.declared.ListAnswer.the-variants as answers
 use Rattle.list_run.specs.Run.{Left, months}
@@ -40,31 +44,63 @@ use Rattle.book_lines.specs.declared.SoilNumbers.{SoilNumbers}
 use Rattle.book_lines.specs.declared.SoilLine.{SoilLine}
 use Rattle.book_lines.specs.Lines.{headLine, soilLine}
 use Rattle.book_lines.proofs.Laws.{head-read, soil-read}
-use Rattle.book_rows.specs.declared.RowsEnd.{RowsEnd}
-use Rattle.book_rows.specs.Rows.{readWeather, readLand}
+use Rattle.book_rows.specs.Rows.{RowsRead, readWeather, readLand}
 use Rattle.book_run.specs.declared.BookAnswer.{BookAnswer}
 use Rattle.book_run.specs.declared.BookAnswer.the-variants.{Finished, Refused}
 use Rattle.book_run.specs.Book.{BookLeft, refusedOn, soilName, weatherName, landName, notOne, badCount, headed, ending, afterRows}
 use Rattle.book_run.specs.Book.{afterMonths, landMonths, landSection, landHead, weatherThen, weatherSection, weatherHead, soilOf, soilChecked}
 use Rattle.book_run.specs.Book.{soilThen, soilSection, bookOf}
-use Rattle.book_laws.specs.BookText.{weatherLineOf, landLineOf, bookText, LandValues, WeatherSound, Each}
-use Rattle.book_laws.specs.BookText.{Counted, Written, listOf}
+use Rattle.book_rows.specs.RowText.{Each, none, more, Counted}
+use Rattle.book_rows.proofs.RowKinds.{plain-lines, LinesAre, written, other, rows-only, rows-length, rows-most}
+use Rattle.book_laws.specs.BookText.{weatherLineOf, landLineOf, bookText, LandValues, WeatherSound, Written, listOf}
 use Rattle.book_laws.specs.Numbers.{refusesBook}
-use Rattle.book_laws.proofs.Rows.{finds, LinesAre, written, other, rows-only, rows-most, weather-kind, land-kind}
+use Rattle.book_laws.proofs.Rows.{weather-kind, land-kind}
 use Rattle.book_laws.proofs.RoundTrip.{round-trip}
+
+-- ---- the weather of the months
+
+-- There is weather, and every row of it passes 13, 14 and 19.
+record AllPass (weather : List ℤ) : Type 0 where
+  some : 0 < weatherRows weather
+  each : (i : ℕ) → i < weatherRows weather → weatherCheck (weatherFrom weather (weatherWidth * i)) ≡ Pass
+
+-- So every month's weather does.
+month-passes : (weather land : List ℤ) (j : ℕ) → AllPass weather → weatherCheck (entriesAt weather land j .weather) ≡ Pass
+unfolding entriesAt
+month-passes weather land j all = all .each (j % weatherRows weather) (mod-lt j (all .some))
+
+-- The rows of a book's weather are such.
+row-passes :
+    {xs : List Weather} → Each WeatherSound xs → (i : ℕ) → i < length xs
+    → weatherCheck (weatherFrom (flatMap weatherNumbers xs) (weatherWidth * i)) ≡ Pass
+unfolding flatMap
+row-passes none i h = absurd (omega arith)
+row-passes (more {x} {xs} sound later) zero h = rw (weather-back [] (flatMap weatherNumbers xs) x) (sound .passes)
+row-passes (more {x} {xs} sound later) (suc i) h =
+    let next : weatherWidth * suc i ≡ length (weatherNumbers x) + weatherWidth * i = omega (arith, weather-of-length x) in
+    rw (next, weather-past (weatherNumbers x) (flatMap weatherNumbers xs) (weatherWidth * i)) (row-passes later i (omega arith))
+
+all-pass : (xs : List Weather) → Counted (length xs) → Each WeatherSound xs → AllPass (flatMap weatherNumbers xs)
+all-pass xs counted sound =
+    let rows : weatherRows (flatMap weatherNumbers xs) ≡ length xs = omega (arith, rows-length weather-kind xs) in
+    record { some = omega (arith, counted .least); each = λ i h. row-passes sound i (omega arith) }
 
 -- ---- the months
 
--- A month that 12 lets pass is refused by one of 13 to 17, ..
-entries-find : {r : Refusal} (s : State) (e : Entries) → s .months < monthLimit → entriesCheck s e ≡ Refuse r → refusesBook r ≡ true
-unfolding firstOf entriesAsked limitReached weatherAsked carbonAsked landAsked
-entries-find s e few h =
-    finds (weatherAsked (e .weather) ++ carbonAsked s (e .land)) refl
-    (rw (lt-leb monthLimit (s .months) few) at h)
+-- A month that 12, 13, 14 and 19 let pass is refused by one of 15 to 17, ..
+entries-find :
+    {r : Refusal} (s : State) (e : Entries) → s .months < monthLimit → weatherCheck (e .weather) ≡ Pass
+    → entriesCheck s e ≡ Refuse r → refusesBook r ≡ true
+unfolding firstOf entriesAsked limitReached carbonAsked landAsked
+entries-find s e few passes h =
+    finds-own refusesBook (carbonAsked s (e .land)) refl
+    (rw (lt-leb monthLimit (s .months) few, first-append (weatherAsked (e .weather)) (carbonAsked s (e .land)), passes) at h)
 
-month-finds : {r : Refusal} (s : State) (e : Entries) → s .months < monthLimit → listMonth s e .answer ≡ month.Refused r → refusesBook r ≡ true
+month-finds :
+    {r : Refusal} (s : State) (e : Entries) → s .months < monthLimit → weatherCheck (e .weather) ≡ Pass
+    → listMonth s e .answer ≡ month.Refused r → refusesBook r ≡ true
 unfolding listMonth outcomeOf
-month-finds {r} s e few h = entries-find s e few (by-check (entriesCheck s e) h)
+month-finds {r} s e few passes h = entries-find s e few passes (by-check (entriesCheck s e) h)
   where
     by-check : (check : Check) → outcomeOf check s e .answer ≡ month.Refused r → check ≡ Refuse r
     by-check Pass h = absurd (let z : _≡_ {A = ℕ} 0 1 = cc in omega arith)
@@ -73,20 +109,20 @@ month-finds {r} s e few h = entries-find s e few (by-check (entriesCheck s e) h)
 -- .. and so are months that don't come to 12.
 months-find :
     {weather land : List ℤ} {left j : ℕ} {s : State} {out : List ℕ} {end : Left} {r : Refusal} {place : ℕ}
-    → Course weather land left j s out end → s .months + left ≤ monthLimit → end .outcome .answer ≡ answers.Refused r place
-    → refusesBook r ≡ true
-months-find courses.finished few h = absurd (let z : _≡_ {A = ℕ} 0 1 = cc in omega arith)
-months-find {weather} {land} {j} {s} {r} (courses.refused reason e) few h =
+    → AllPass weather → Course weather land left j s out end → s .months + left ≤ monthLimit
+    → end .outcome .answer ≡ answers.Refused r place → refusesBook r ≡ true
+months-find all courses.finished few h = absurd (let z : _≡_ {A = ℕ} 0 1 = cc in omega arith)
+months-find {weather} {land} {j} {s} {r} all (courses.refused reason e) few h =
     let same : reason ≡ r = cc in
-    month-finds s (entriesAt weather land j) (omega arith) (e ∙ ap month.Refused same)
-months-find {weather} {land} {j} {s} (courses.month row e later) few h =
-    months-find later (omega (arith, done-months s (entriesAt weather land j) row e)) h
+    month-finds s (entriesAt weather land j) (omega arith) (month-passes weather land j all) (e ∙ ap month.Refused same)
+months-find {weather} {land} {j} {s} all (courses.month row e later) few h =
+    months-find all later (omega (arith, done-months s (entriesAt weather land j) row e)) h
 
 list-finds :
-    {r : Refusal} {place : ℕ} (soil : Soil) (weather land : List ℤ) (rows : List ℕ) → length land ≤ landWidth * 1200
+    {r : Refusal} {place : ℕ} (soil : Soil) (weather land : List ℤ) (rows : List ℕ) → AllPass weather → length land ≤ landWidth * 1200
     → months (landRows land) weather land 0 (newState soil) rows .outcome .answer ≡ answers.Refused r place → refusesBook r ≡ true
 unfolding newState
-list-finds soil weather land rows few h = months-find (course weather land (landRows land) 0 (newState soil) rows) (omega arith) h
+list-finds soil weather land rows all few h = months-find all (course weather land (landRows land) 0 (newState soil) rows) (omega arith) h
 
 -- ---- how a book ends
 
@@ -117,7 +153,7 @@ module _ (s : List ℕ) where
       → (check ≡ Pass → Ends s (later .answer)) → Ends s (soilChecked check rows later .answer)
   unfolding soilAsked
   by-check x Pass rows later is rest = rest refl
-  by-check x (Refuse r) rows later is rest = refused (finds (soilAsked (soilOf x)) refl is)
+  by-check x (Refuse r) rows later is rest = refused (finds-own refusesBook (soilAsked (soilOf x)) refl is)
 
   by-soil :
       (line : SoilLine) (rows : List ℕ) (later : State → ℕ → BookLeft)
@@ -130,11 +166,13 @@ module _ (s : List ℕ) where
 
   -- .. the weather, ..
   by-weather :
-      {count at : ℕ} {end : RowsEnd} (rows : List ℕ) (later : ℕ → BookLeft) → LinesAre weatherLineOf WeatherSound count s at end
+      {count at : ℕ} {read : RowsRead} (rows : List ℕ) (later : List ℤ → ℕ → BookLeft)
+      → LinesAre (λ n. weatherLineOf) weatherNumbers WeatherSound refusesBook count s at 4 read
       → ((xs : List Weather) (next : ℕ) → length xs ≡ count → Each WeatherSound xs
-      → drop at s ≡ flatMap weatherLineOf xs ++ drop next s → Ends s (later next .answer))
-      → Ends s (weatherThen end rows later .answer)
-  by-weather rows later (written {end} xs size sound text) rest = rest xs end size sound text
+      → drop at s ≡ flatMap weatherLineOf xs ++ drop next s → Ends s (later (flatMap weatherNumbers xs) next .answer))
+      → Ends s (weatherThen (read .ends) rows (later (read .numbers)) .answer)
+  by-weather rows later (written {end} xs size sound text) rest =
+      rest xs end size sound (text ∙ ap (λ (l : List ℕ). l ++ drop end s) (plain-lines weatherLineOf 4 xs))
   by-weather rows later (other own) rest = refused own
 
   -- .. the months, and the land with the end of the text.
@@ -152,25 +190,27 @@ module _ (s : List ℕ) where
   by-end false place line months pools co2 is rest = refused refl
 
   by-land :
-      {count at : ℕ} {end : RowsEnd} (line : ℕ) (state : State) → Counted count → LinesAre landLineOf LandValues count s at end
+      {count at number : ℕ} {read : RowsRead} (line : ℕ) (state : State) → Counted count
+      → LinesAre (λ n. landLineOf) landNumbers LandValues refusesBook count s at number read
       → ((xs : List Land) → length xs ≡ count → Each LandValues xs → drop at s ≡ flatMap landLineOf xs → Written s)
-      → Ends s (afterRows end s line count state)
+      → Ends s (afterRows (read .ends) s line count state)
   unfolding ending
-  by-land line state counted (written {end} xs size values text) rest =
+  by-land {number} line state counted (written {end} xs size values text) rest =
       by-end (eqb end (length s)) end line _ _ _ refl
-      (λ ends. finished counted (rest xs size values (text ∙ rw ends (append-nil (flatMap landLineOf xs)))))
+      (λ ends. finished counted
+      (rest xs size values (text ∙ rw (ends, plain-lines landLineOf number xs) (append-nil (flatMap landLineOf xs)))))
   by-land line state counted (other own) rest = refused own
 
   land-ends :
-      (soil : Soil) (count at head : ℕ) (weather : List ℤ) (rows : List ℕ) → Counted count
+      (soil : Soil) (count at head : ℕ) (weather : List ℤ) (rows : List ℕ) → AllPass weather → Counted count
       → ((xs : List Land) → length xs ≡ count → Each LandValues xs → drop at s ≡ flatMap landLineOf xs → Written s)
       → Ends s (landSection count s at head weather (newState soil) rows .answer)
   unfolding landSection readLand
-  land-ends soil count at head weather rows counted rest =
+  land-ends soil count at head weather rows all counted rest =
       let land = readLand count s at (head + 1) in
       let few : length (land .numbers) ≤ landWidth * 1200 = omega (arith, counted .most, rows-most land-kind count s at (head + 1)) in
       let left = landMonths land weather (newState soil) rows in
-      by-months (left .outcome .answer) head _ (λ r place h. list-finds soil weather (land .numbers) rows few h)
+      by-months (left .outcome .answer) head _ (λ r place h. list-finds soil weather (land .numbers) rows all few h)
       (by-land (head + 1 + count) (left .outcome .state) counted (rows-only land-kind count s at (head + 1)) rest)
 
 good-count : (n : ℕ) → badCount n ≡ false → Counted n
@@ -185,10 +225,12 @@ book-ends s rows =
     by-head s (headLine s 0 soilName) notOne 1 rows _ (λ one at-soil soil-head is-one.
     by-soil s (soilLine s at-soil) rows _ (λ x at-weather-head soil pass.
     by-head s (headLine s at-weather-head weatherName) badCount 3 rows _ (λ m at-weather weather-head good-m.
-    by-weather s rows _ (rows-only weather-kind m s at-weather 4) (λ weather at-land-head weather-count sound weather-text.
+    by-weather s rows (λ numbers next. landHead s next (m + 4) numbers (newState (soilOf x)) rows)
+    (rows-only weather-kind m s at-weather 4) (λ weather at-land-head weather-count sound weather-text.
     by-head s (headLine s at-land-head landName) badCount (m + 4) rows _ (λ n at-land land-head good-n.
     let counted = good-count n good-n in
-    land-ends s (soilOf x) n at-land (m + 4) _ rows counted (λ land land-count values land-text.
+    let all = all-pass weather (rw weather-count (good-count m good-m)) sound in
+    land-ends s (soilOf x) n at-land (m + 4) (flatMap weatherNumbers weather) rows all counted (λ land land-count values land-text.
     let single : one ≡ 1 = eqb-true one 1 (not-false _ is-one) in
     record {
       numbers = record { soil = x; weather = weather; land = land };
@@ -236,7 +278,7 @@ module _ {months : ℕ} {pools co2 : Grams} (s rows : List ℕ) (h : bookOf s ro
 
 -- ---- a book that is refused
 
--- 8 to 12 never refuse it.
+-- 8 to 12, 18 and 19 never refuse it.
 pub book-numbers : (s rows : List ℕ) (refusal : Refusal) (line : ℕ) → bookOf s rows .answer ≡ Refused refusal line → refusesBook refusal ≡ true
 book-numbers s rows refusal line h = of-ends (rw h at (book-ends s rows))
   where

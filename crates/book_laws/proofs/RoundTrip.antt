@@ -13,15 +13,17 @@ use Rattle.book_values.specs.declared.Value.{Value}
 use Rattle.book_lines.specs.declared.SoilLine.{SoilLine}
 use Rattle.book_lines.specs.Lines.{headLine, soilLine}
 use Rattle.book_lines.specs.LineText.{headText, soilText}
-use Rattle.book_lines.proofs.Parts.{after}
+use Rattle.book_values.proofs.Texts.{after}
 use Rattle.book_lines.proofs.Laws.{head-round, soil-round}
 use Rattle.book_rows.specs.declared.RowsEnd.the-variants.{Next}
 use Rattle.book_rows.specs.Rows.{readWeather, readLand}
 use Rattle.book_run.specs.Book.{soilName, weatherName, landName, badCount, ending, landSection, landHead}
 use Rattle.book_run.specs.Book.{weatherSection, weatherHead, soilSection, bookOf}
-use Rattle.book_laws.specs.BookText.{BookNumbers, weatherLineOf, landLineOf, bookText, Counted, WellFormed}
+use Rattle.book_rows.specs.RowText.{Counted}
+use Rattle.book_laws.specs.BookText.{BookNumbers, weatherLineOf, landLineOf, bookText, WellFormed}
 use Rattle.book_laws.specs.BookText.{weatherList, landList, ofList, listOf}
-use Rattle.book_laws.proofs.Rows.{rows-back, rows-same, weather-kind, land-kind}
+use Rattle.book_rows.proofs.RowKinds.{rows-same}
+use Rattle.book_laws.proofs.Rows.{plain-back, weather-kind, land-kind}
 use Rattle.book_laws.proofs.Size.{soil-below, text-size}
 
 -- What is read of a text, line after line: these numbers, and nothing follows them.
@@ -57,12 +59,14 @@ reads b good =
     let one : 1 < 10 ^ 10 = omega arith in
     let weather-few : length (b .weather) < 10 ^ 10 = omega (arith, good .weather-count) in
     let land-few : length (b .land) < 10 ^ 10 = omega (arith, good .land-count) in
+    let land-lines : length (b .weather) + 4 + 1 + length (b .land) ≤ 10 ^ 10 = omega (arith, good .weather-count, good .land-count) in
+    let weather-lines : 4 + length (b .weather) ≤ 10 ^ 10 = omega (arith, good .weather-count) in
     let at-soil = after s 0 soil-head _ refl in
     let at-weather-head = after s _ soil _ at-soil in
     let at-weather = after s _ weather-head _ at-weather-head in
     let at-land-head = after s _ weather _ at-weather in
     let at-land = after s _ land-head land at-land-head in
-    let land-read = rows-back land-kind s _ (length (b .weather) + 4 + 1) _ (good .land) (at-land ∙ sym (append-nil land)) in
+    let land-read = plain-back land-kind s _ (length (b .weather) + 4 + 1) _ land-lines (good .land) (at-land ∙ sym (append-nil land)) in
     record {
       from-soil = _;
       from-weather-head = _;
@@ -72,7 +76,7 @@ reads b good =
       soil-head = head-round soilName 1 s 0 _ one refl;
       soil = soil-round (b .soil) s _ _ (soil-below b good) at-soil;
       weather-head = head-round weatherName (length (b .weather)) s _ _ weather-few at-weather-head;
-      weather = rows-back weather-kind s _ 4 _ (good .weather) at-weather;
+      weather = plain-back weather-kind s _ 4 _ weather-lines (good .weather) at-weather;
       land-head = head-round landName (length (b .land)) s _ land land-few at-land-head;
       land = (land-read .0, land-read .1 ∙ ap Next end);
     }

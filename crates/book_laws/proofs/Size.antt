@@ -14,9 +14,10 @@ use Rattle.book_digits.proofs.Digits.{length-within, decimal-ten}
 use Rattle.book_lines.specs.declared.SoilNumbers.{SoilNumbers}
 use Rattle.book_lines.specs.LineText.{headText, soilText, weatherText, landText, SoilBelow}
 use Rattle.book_run.specs.Book.{soilName, weatherName, landName, soilOf}
-use Rattle.book_laws.specs.BookText.{BookNumbers, weatherLineOf, landLineOf, bookText, LandValues, WeatherSound, Each, none, more}
+use Rattle.book_rows.specs.RowText.{Each, none, more}
+use Rattle.book_rows.proofs.RowKinds.{weather-values}
+use Rattle.book_laws.specs.BookText.{BookNumbers, weatherLineOf, landLineOf, bookText, LandValues, WeatherSound}
 use Rattle.book_laws.specs.BookText.{WellFormed}
-use Rattle.book_laws.proofs.Rows.{weather-values}
 
 -- ---- a line
 
@@ -48,7 +49,7 @@ soil-size x h =
 weather-size : (w : Weather) → WeatherSound w → length (weatherLineOf w) ≤ 17
 unfolding weatherText
 weather-size w pass =
-    let v = weather-values w pass in
+    let v = weather-values w (pass .passes) in
     simp length-append
     (omega (
       arith,

@@ -20,8 +20,10 @@ use Rattle.list_rows.specs.Rows.{landRows, rowsOutside}
 use Rattle.list_run.specs.Run.{roomAsked, beforeMonths}
 use Rattle.list_run.proofs.Laws.{rows-pass, passes-run}
 use Rattle.book_run.specs.Book.{soilOf, bookOf}
-use Rattle.book_laws.specs.BookText.{BookNumbers, bookText, Counted, WellFormed, weatherList, landList, ofList, runOf, listOf}
-use Rattle.book_laws.proofs.Rows.{rows-length, weather-kind, land-kind}
+use Rattle.book_rows.specs.RowText.{Counted}
+use Rattle.book_rows.proofs.RowKinds.{rows-length}
+use Rattle.book_laws.specs.BookText.{BookNumbers, bookText, WellFormed, weatherList, landList, ofList, runOf, listOf}
+use Rattle.book_laws.proofs.Rows.{weather-kind, land-kind}
 use Rattle.book_laws.proofs.RoundTrip.{round-trip}
 
 -- 3 finds nothing where a section's count is from 1 to 1,200, for rows of any width.

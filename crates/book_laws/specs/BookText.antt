@@ -1,8 +1,8 @@
 -- A book's numbers, its text as it is written, and what step 7's list of months makes of them.
 use mathlib.Core.Path.{_≡_}
-use mathlib.Core.List.{List, [], _∷_, _++_, flatMap}
-use Prim.Native.Nat.{ℕ, _+_, _^_, _≤_, _<_}
-use lib.IntN.{ℤ, natAbs}
+use mathlib.Core.List.{List, _++_, flatMap}
+use Prim.Native.Nat.{ℕ, _+_, _^_, _<_}
+use lib.IntN.{ℤ, pos, natAbs}
 use lib.ListN.{length}
 use Rattle.step_pools.specs.Pools.{grams}
 use Rattle.month_state.specs.declared.Weather.{Weather}
@@ -10,11 +10,12 @@ use Rattle.month_state.specs.declared.Land.{Land}
 use Rattle.month_state.specs.State.{newState, fivePools}
 use Rattle.list_rows.specs.Rows.{weatherNumbers, landNumbers}
 use Rattle.month_refusals.specs.declared.Check.the-variants.{Pass}
-use Rattle.month_refusals.specs.Refusals.{soilCheck, weatherCheck}
+use Rattle.month_refusals.specs.Refusals.{soilCheck}
 use Rattle.list_rows.specs.Rows.{landRows}
 use Rattle.list_run.specs.Run.{Left, months, run}
 use Rattle.book_lines.specs.declared.SoilNumbers.{SoilNumbers}
-use Rattle.book_rows.specs.Rows.{weatherOf, landOf}
+use Rattle.book_rows.specs.Rows.{landOf}
+use Rattle.book_rows.specs.RowText.{Each, SoundFrom, Counted}
 use Rattle.book_lines.specs.LineText.{headText, soilText, weatherText, landText}
 use Rattle.book_run.specs.declared.BookAnswer.the-variants.{Finished}
 use Rattle.book_run.specs.Book.{BookLeft, soilName, weatherName, landName, afterMonths, soilOf}
@@ -48,10 +49,9 @@ bookText b =
 
 -- ---- a book of which no line is at fault before its months run
 
--- A weather line says the row, and 13 and 14 let it pass.
-pub record WeatherSound (w : Weather) : Type 0 where
-  pub of-line : weatherOf (w .temperature) (natAbs (w .rain)) (natAbs (w .evaporation)) ≡ w
-  pub passes : weatherCheck w ≡ Pass
+-- A weather line says the row, of open pan, and 13 and 14 let it pass.
+abbrev pub WeatherSound : Weather → Type 0
+WeatherSound w = SoundFrom (pos 0) w
 
 -- A land line says the row, and its numbers are values: "a digit 1 to 9 and up to nine more
 -- digits".
@@ -60,16 +60,6 @@ pub record LandValues (l : Land) : Type 0 where
   pub cover : natAbs (l .cover) < 10 ^ 10
   pub plant : natAbs (l .plant) < 10 ^ 10
   pub manure : natAbs (l .manure) < 10 ^ 10
-
--- Each of a list is so.
-pub data Each {A : Type 0} (P : A → Type 0) : List A → Type 0 where
-  none : Each P []
-  more : {x : A} {xs : List A} → P x → Each P xs → Each P (x ∷ xs)
-
--- 3: a count is from 1 to 1,200.
-pub record Counted (n : ℕ) : Type 0 where
-  pub least : 1 ≤ n
-  pub most : n ≤ 1200
 
 -- A book of which 1 to 7, 13 and 14 refuse nothing. Its months may still be refused, by 15 to 17.
 pub record WellFormed (b : BookNumbers) : Type 0 where

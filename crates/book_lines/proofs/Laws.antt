@@ -1,8 +1,8 @@
 -- The laws of the book's lines, for the crates above: a line as it is written is read back, and a line that is read stands in
 -- the text as it would be written, its values below 10^10. Assumes nothing.
 use mathlib.Core.Path.{_≡_, sym, _∙_, ap, subst}
+use mathlib.Core.Bool.{true}
 use mathlib.Core.List.{List, _∷_, _++_, append-assoc}
-use mathlib.Core.Logic.{inl, inr}
 use Prim.{Unit}
 use Prim.Native.Nat.{ℕ, _+_, _^_, _≤_, _<_}
 use native.Mathlib.Omega.{arith}
@@ -11,37 +11,35 @@ use lib.ListN.{length, drop, length-append}
 use Rattle.book_digits.specs.Digits.{decimal, signedDecimal}
 use Rattle.book_values.specs.declared.Value.{Value}
 use Rattle.book_values.specs.Values.{readValue, readSigned}
-use Rattle.book_values.proofs.Reading.{either}
+use Rattle.book_values.proofs.Texts.{after, PartRead, none-found, tested}
 use Rattle.book_values.proofs.Laws.{ValueRead, value-read, value-round, SignedRead, signed-read, signed-round}
 use Rattle.book_lines.specs.declared.SoilNumbers.{SoilNumbers}
 use Rattle.book_lines.specs.declared.SoilLine.{SoilLine}
 use Rattle.book_lines.specs.declared.WeatherLine.{WeatherLine}
 use Rattle.book_lines.specs.declared.LandLine.{LandLine}
-use Rattle.book_lines.specs.Lines.{bytesAre, headLine, soilLine, weatherLine, landLine}
+use Rattle.book_lines.specs.Lines.{bytesAre, ended, headLine, soilLine, weatherLine, landLine}
 use Rattle.book_lines.specs.LineText.{headText, soilText, weatherText, landText, SoilBelow}
-use Rattle.book_lines.proofs.Reading.{head-some, head-none}
-use Rattle.book_lines.proofs.Parts.{bytes-read, bytes-round, after, PartRead, none-found}
-use Rattle.book_lines.proofs.Parts.{end-read, end-round, end-no-digit}
+use Rattle.book_lines.proofs.Reading.{head-some}
+use Rattle.book_lines.proofs.Parts.{bytes-read, bytes-round, end-read, end-round, end-no-digit}
 use Rattle.book_lines.proofs.Numbers.{Numbers, textOf, soilRow, weatherRow, landRow, soil-is, weather-is, land-is}
 use Rattle.book_lines.proofs.Numbers.{value-cases, first-cases, values-cases, line-parts, space-first, line-round}
 
 -- A head that was read: its count is below 10^10, it stands there as it is written, and the next line begins after it, within
 -- the text.
 pub head-read : (s : List ℕ) (at : ℕ) (name : List ℕ) (n next : ℕ) → headLine s at name ≡ Value.Number n next →
-    PartRead s at n (headText name n) next
-unfolding headText
-head-read s at name n next e = elim (either (bytesAre s at name)) [
-  | inl b ↦
-      end-read s at (readValue s (at + length name)) (λ m. name ++ decimal m) (λ m place count.
-      let v : ValueRead s (at + length name) m place = value-read s (at + length name) m place count in
-      record {
-        below = v .below;
-        text = bytes-read s at name b ∙ rw (v .text) (sym (append-assoc name (decimal m) (drop place s)));
-        above = omega arith;
-        within = v .within;
-      }) n next (sym (head-some s at name b) ∙ e)
-  | inr b ↦ absurd (none-found (sym (head-none s at name b) ∙ e))
-]
+    PartRead (10 ^ 10) s at n (headText name n) next
+unfolding headLine headText
+head-read s at name n next e =
+    let count : Value = readValue s (at + length name) in
+    let found : (bytesAre s at name ≡ true) × (ended s count ≡ Value.Number n next) = tested _ none-found e in
+    end-read s at count (λ m. name ++ decimal m) (λ m place read.
+    let v : ValueRead s (at + length name) m place = value-read s (at + length name) m place read in
+    record {
+      below = v .below;
+      text = bytes-read s at name (found .0) ∙ rw (v .text) (sym (append-assoc name (decimal m) (drop place s)));
+      above = omega arith;
+      within = v .within;
+    }) n next (found .1)
 
 -- ROUND TRIP of a head.
 pub head-round : (name : List ℕ) (n : ℕ) (s : List ℕ) (at : ℕ) (rest : List ℕ) → n < 10 ^ 10 →

@@ -15,8 +15,9 @@ use Rattle.book_values.specs.Values.{isDigit, readValue, readSigned}
 use Rattle.book_lines.specs.declared.SoilLine.{SoilLine}
 use Rattle.book_lines.specs.declared.WeatherLine.{WeatherLine}
 use Rattle.book_lines.specs.declared.LandLine.{LandLine}
-use Rattle.book_lines.specs.Lines.{spacedValue, ended, valueThen, firstThen, soilLine, weatherLine, landLine}
-use Rattle.book_lines.proofs.Parts.{after, PartRead, spaced-read, spaced-round, end-read, end-round}
+use Rattle.book_lines.specs.Lines.{spacedValue, ended, valueThen, temperatureThen, soilLine, weatherLine, landLine}
+use Rattle.book_values.proofs.Texts.{after, PartRead}
+use Rattle.book_lines.proofs.Parts.{spaced-read, spaced-round, end-read, end-round}
 use Rattle.book_lines.proofs.Parts.{space-no-digit, end-no-digit}
 
 -- So many numbers, and a last one.
@@ -58,7 +59,7 @@ module _ (s : List ℕ) (at : ℕ) where
   soil-is = refl
 
   pub weather-is : weatherLine s at
-      ≡ firstThen (readSigned s at) (λ z a. valuesThen WeatherLine.Malformed s 1 a (weatherRow z))
+      ≡ temperatureThen (readSigned s at) (λ z a. valuesThen WeatherLine.Malformed s 1 a (weatherRow z))
   unfolding weatherLine valuesThen
   weather-is = refl
 
@@ -161,7 +162,7 @@ value-cases P (Value.Number n next) none some = some n next refl
 value-cases P Value.Malformed none some = none
 
 pub first-cases : (P : WeatherLine → Type 0) (v : Signed) {later : ℤ → ℕ → WeatherLine} → P WeatherLine.Malformed →
-    ((z : ℤ) (next : ℕ) → v ≡ Signed.Number z next → P (later z next)) → P (firstThen v later)
+    ((z : ℤ) (next : ℕ) → v ≡ Signed.Number z next → P (later z next)) → P (temperatureThen v later)
 first-cases P (Signed.Number z next) none some = some z next refl
 first-cases P Signed.Malformed none some = none
 
@@ -171,12 +172,12 @@ pub values-cases : {Line : Type 0} {malformed : Line} (P : Line → Type 0) (s :
 unfolding valuesThen
 values-cases P s zero at none some =
     value-cases P (ended s (spacedValue s at)) none (λ n next e.
-    let r : PartRead s at n (spaced n ++ lineEnd) next =
+    let r : PartRead (10 ^ 10) s at n (spaced n ++ lineEnd) next =
     end-read s at (spacedValue s at) spaced (spaced-read s at) n next e in
     some n next (record { below = r .below; text = r .text; above = r .above; within = r .within }))
 values-cases P s (suc k) at none some =
     value-cases P (spacedValue s at) none (λ n place e.
-    let r : PartRead s at n (spaced n) place = spaced-read s at n place e in
+    let r : PartRead (10 ^ 10) s at n (spaced n) place = spaced-read s at n place e in
     values-cases P s k place none (λ x next q.
     some (n, x) next
     (record {

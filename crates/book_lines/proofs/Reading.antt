@@ -89,10 +89,10 @@ pub head-none : (s : List ℕ) (at : ℕ) (name : List ℕ) → bytesAre s at na
 unfolding headLine
 head-none s at name b = rw b
 
--- A number with a sign that has the form of a value fits 64 bits.
-signed-fits : (z : ℤ) → natAbs z < 10 ^ 10 → SFits w64 z
+-- A number with a sign that is not too large fits 64 bits.
+signed-fits : (z : ℤ) → natAbs z < 2 ^ 63 → SFits w64 z
 signed-fits (pos n) h = record { sfits = omega arith }
 signed-fits (negsuc n) h = record { sfits = omega arith }
 
-pub signed-kept : (z : ℤ) → natAbs z < 10 ^ 10 → toZ w64 (ofZ w64 z) ≡ z
+pub signed-kept : (z : ℤ) → natAbs z < 2 ^ 63 → toZ w64 (ofZ w64 z) ≡ z
 signed-kept z h = toZ-ofZ (signed-fits z h)

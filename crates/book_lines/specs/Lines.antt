@@ -48,10 +48,10 @@ weatherThen value later = valueThen WeatherLine.Malformed value later
 abbrev pub landThen : Value → (ℕ → ℕ → LandLine) → LandLine
 landThen value later = valueThen LandLine.Malformed value later
 
--- The same of a weather line's first value, the temperature.
-abbrev pub firstThen : Signed → (ℤ → ℕ → WeatherLine) → WeatherLine
-firstThen (Signed.Number z next) later = later z next
-firstThen Signed.Malformed later = WeatherLine.Malformed
+-- The same of the temperature, which may have a minus.
+abbrev pub temperatureThen : Signed → (ℤ → ℕ → WeatherLine) → WeatherLine
+temperatureThen (Signed.Number z next) later = later z next
+temperatureThen Signed.Malformed later = WeatherLine.Malformed
 
 -- `SOIL 1`: clay, depth, kind, DPM, RPM, BIO, HUM, IOM.
 unfoldable pub soilLine : List ℕ → ℕ → SoilLine
@@ -80,7 +80,7 @@ soilLine s at =
 -- `WEATHER n`: temperature, rain, evaporation. "temperature alone may have a minus".
 unfoldable pub weatherLine : List ℕ → ℕ → WeatherLine
 weatherLine s at =
-    firstThen (readSigned s at) (λ temperature a.
+    temperatureThen (readSigned s at) (λ temperature a.
     weatherThen (spacedValue s a) (λ rain b.
     weatherThen (ended s (spacedValue s b)) (λ evaporation next.
     WeatherLine.Row temperature rain evaporation next)))

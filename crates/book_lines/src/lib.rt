@@ -69,7 +69,7 @@ fn spaced_value(s: &[u8], at: usize) -> Value
 }
 
 // A value that its line ends with, and the place of the next line.
-fn ended(s: &[u8], value: Value) -> Value
+pub fn ended(s: &[u8], value: Value) -> Value
     ensures { λ r. ⌜ r ≡ ended (now (s .entry)) value ⌝ }
 {
     let Value::Number(n, next) = value else {

@@ -1,4 +1,4 @@
--- Laws of a book's rows, once for any kind of row and width: the first row and the later ones, how many numbers are read, and the
+-- Laws of rows, once for any kind of row and width: the first row and the later ones, how many numbers are read, and the
 -- slice that they are put in. Then the two kinds, and the values of their lines.
 -- Assumes nothing.
 use mathlib.Core.Path.{_≡_, refl, sym, _∙_, ap}
@@ -25,19 +25,19 @@ use Rattle.book_rows.specs.declared.WeatherRow.{WeatherRow}
 use Rattle.book_rows.specs.declared.WeatherRow.the-variants as weathers
 use Rattle.book_rows.specs.declared.LandRow.{LandRow}
 use Rattle.book_rows.specs.declared.LandRow.the-variants as lands
-use Rattle.book_rows.specs.Rows.{weatherRow, landRow, RowGives, numbers, refused, weatherGives, landGives}
+use Rattle.book_rows.specs.Rows.{LineFits, weatherRow, landRow, RowGives, numbers, refused, weatherGives, landGives}
 use Rattle.book_rows.specs.Rows.{RowsRead, rowThen, readRows, begunWith, readWeather, readLand}
 
 -- ---- numbers that fit
 
 -- The values of a line that was read fit 64 bits with a sign.
-pub weather-fits :
-    (s : List ℕ) (place : ℕ) (temperature : ℤ) (rain evaporation next : ℕ)
-    → weatherLine s place ≡ WeatherLine.Row temperature rain evaporation next
-    → (rain < 2 ^ 63) × (evaporation < 2 ^ 63)
-weather-fits s place temperature rain evaporation next h =
-    let read = weather-read s place temperature rain evaporation next h in
-    (omega (arith, read .rain-below), omega (arith, read .evaporation-below))
+pub weather-fits : (s : List ℕ) (place : ℕ) → LineFits (weatherLine s place)
+weather-fits s place =
+    record {
+      values = λ temperature rain evaporation next h.
+          let read = weather-read s place temperature rain evaporation next h in
+          (omega (arith, read .rain-below), omega (arith, read .evaporation-below));
+    }
 
 pub land-fits :
     (s : List ℕ) (place cover plant manure next : ℕ) → landLine s place ≡ LandLine.Row cover plant manure next
@@ -56,15 +56,15 @@ before some later = record { numbers = some ++ later .numbers; ends = later .end
 abbrev pub nothingRead : RowsEnd → RowsRead
 nothingRead end = record { numbers = []; ends = end }
 
-module _ (row : List ℕ → ℕ → RowGives) (left : ℕ) (s : List ℕ) (place line : ℕ) where
+module _ (row : List ℕ → ℕ → ℕ → RowGives) (left : ℕ) (s : List ℕ) (place line : ℕ) where
   pub row-refused :
-      (refusal : Refusal) → row s place ≡ refused refusal
+      (refusal : Refusal) → row s place line ≡ refused refusal
       → readRows row (suc left) s place line ≡ nothingRead (ends.Refused refusal line)
   unfolding readRows
   row-refused refusal h = rw h
 
   pub row-then :
-      (found : List ℤ) (next : ℕ) → row s place ≡ numbers found next
+      (found : List ℤ) (next : ℕ) → row s place line ≡ numbers found next
       → readRows row (suc left) s place line ≡ before found (readRows row left s next (suc line))
   unfolding readRows
   row-then found next h = rw h
@@ -102,22 +102,25 @@ module _ (width : ℕ) where
       simp length-append (omega (arith, is, rest next h))
   full-then (refused refusal) line left end later none rest h = absurd (let z : _≡_ {A = ℕ} 0 1 = cc in omega arith)
 
-  module _ (row : List ℕ → ℕ → RowGives) (all-wide : (s : List ℕ) (place : ℕ) → Wide width (row s place)) where
-    -- They are those of whole rows, as many as were asked for at most; ..
-    pub some : (left : ℕ) (s : List ℕ) (place line : ℕ) → RowsOf width left (readRows row left s place line .numbers)
-    unfolding readRows
-    some zero s place line = record { rows = 0; most = omega arith; size = rw mul-zero }
-    some (suc left) s place line =
-        some-then (row s place) line left _ (all-wide s place) (λ next. some left s next (suc line))
+  module _
+      (row : List ℕ → ℕ → ℕ → RowGives)
+      (all-wide : (s : List ℕ) (place line : ℕ) → Wide width (row s place line))
+    where
+      -- They are those of whole rows, as many as were asked for at most; ..
+      pub some : (left : ℕ) (s : List ℕ) (place line : ℕ) → RowsOf width left (readRows row left s place line .numbers)
+      unfolding readRows
+      some zero s place line = record { rows = 0; most = omega arith; size = rw mul-zero }
+      some (suc left) s place line =
+          some-then (row s place line) line left _ (all-wide s place line) (λ next. some left s next (suc line))
 
-    -- .. where reading ends with the next line, of all of them.
-    pub full :
-        (left : ℕ) (s : List ℕ) (place line end : ℕ) → readRows row left s place line .ends ≡ ends.Next end
-        → length (readRows row left s place line .numbers) ≡ width * left
-    unfolding readRows
-    full zero s place line end h = rw mul-zero
-    full (suc left) s place line end h =
-        full-then (row s place) line left end _ (all-wide s place) (λ next e. full left s next (suc line) end e) h
+      -- .. where reading ends with the next line, of all of them.
+      pub full :
+          (left : ℕ) (s : List ℕ) (place line end : ℕ) → readRows row left s place line .ends ≡ ends.Next end
+          → length (readRows row left s place line .numbers) ≡ width * left
+      unfolding readRows
+      full zero s place line end h = rw mul-zero
+      full (suc left) s place line end h =
+          full-then (row s place line) line left end _ (all-wide s place line) (λ next e. full left s next (suc line) end e) h
 
 -- ---- the slice that begins with them
 
@@ -144,7 +147,7 @@ front-begun n slice part found size room is =
 -- After i rows: the slice's numbers up to there, before what the rows that are left give, are the whole; those after them are as
 -- they were.
 pub record Reading
-    (row : List ℕ → ℕ → RowGives)
+    (row : List ℕ → ℕ → ℕ → RowGives)
     (width : ℕ)
     (s : List ℕ)
     (place line count : ℕ)
@@ -158,7 +161,7 @@ pub record Reading
   pub whole : before (take (width * i) slice) (readRows row (count - i) s next (line + i)) ≡ readRows row count s place line
 
 -- Where reading ends: the rows that were read, how it ends, and the slice.
-abbrev pub Ended : (List ℕ → ℕ → RowGives) → ℕ → List ℕ → ℕ → ℕ → ℕ → List ℤ → List ℤ → ℕ → RowsEnd → Type 0
+abbrev pub Ended : (List ℕ → ℕ → ℕ → RowGives) → ℕ → List ℕ → ℕ → ℕ → ℕ → List ℤ → List ℤ → ℕ → RowsEnd → Type 0
 Ended row width s place line count slice₀ slice i end =
     (width * i ≡ length (readRows row count s place line .numbers))
     × ((end ≡ readRows row count s place line .ends)
@@ -167,7 +170,7 @@ Ended row width s place line count slice₀ slice i end =
 rows-room : (width i count : ℕ) → i < count → width * i + width ≤ width * count
 rows-room width i count h = omega (arith, mul-le-mul-left width h)
 
-module _ {row : List ℕ → ℕ → RowGives} {width : ℕ} {s : List ℕ} {place line count : ℕ} where
+module _ {row : List ℕ → ℕ → ℕ → RowGives} {width : ℕ} {s : List ℕ} {place line count : ℕ} where
   -- Before the first row, ..
   pub begins : (slice : List ℤ) → width * count ≤ length slice → Reading row width s place line count slice slice place 0
   begins slice room =
@@ -179,7 +182,7 @@ module _ {row : List ℕ → ℕ → RowGives} {width : ℕ} {s : List ℕ} {pla
 
     -- .. after one more that is put in its place, ..
     pub row-put :
-        {found slice' : List ℤ} {after : ℕ} → i < count → row s next ≡ numbers found after → length found ≡ width
+        {found slice' : List ℤ} {after : ℕ} → i < count → row s next (line + i) ≡ numbers found after → length found ≡ width
         → slice' ≡ sets slice (width * i) found → Reading row width s place line count slice₀ slice' after (i + 1)
     row-put {found} {slice'} {after} more is long puts =
         let room : width * i + width ≤ length slice = room-here more in
@@ -217,7 +220,7 @@ module _ {row : List ℕ → ℕ → RowGives} {width : ℕ} {s : List ℕ} {pla
 
     -- with a row that is refused, ..
     pub ends-refused :
-        {refusal : Refusal} → i < count → row s next ≡ refused refusal
+        {refusal : Refusal} → i < count → row s next (line + i) ≡ refused refusal
         → Ended row width s place line count slice₀ slice i (ends.Refused refusal (line + i))
     ends-refused {refusal} more is =
         ends-here (rw (sub-suc more) (row-refused row (count - suc i) s next (line + i) refusal is))
@@ -229,13 +232,13 @@ module _ {row : List ℕ → ℕ → RowGives} {width : ℕ} {s : List ℕ} {pla
 
 -- ---- the two kinds
 
-abbrev pub weatherAt : List ℕ → ℕ → RowGives
-weatherAt s place = weatherGives (weatherRow s place)
+abbrev pub weatherAt : List ℕ → ℕ → ℕ → RowGives
+weatherAt s place line = weatherGives (weatherRow s place)
 
-abbrev pub landAt : List ℕ → ℕ → RowGives
-landAt s place = landGives (landRow s place)
+abbrev pub landAt : List ℕ → ℕ → ℕ → RowGives
+landAt s place line = landGives (landRow s place)
 
-weather-wide : (row : WeatherRow) → Wide weatherWidth (weatherGives row)
+pub weather-wide : (row : WeatherRow) → Wide weatherWidth (weatherGives row)
 weather-wide (weathers.Row w next) = wide (weather-of-length w)
 weather-wide (weathers.Refused refusal) = none
 
@@ -249,9 +252,9 @@ pub weather-full :
     → length (readWeather count s place line .numbers) ≡ weatherWidth * count
 unfolding readWeather
 weather-full count s place line end h =
-    full weatherWidth weatherAt (λ s place. weather-wide (weatherRow s place)) count s place line end h
+    full weatherWidth weatherAt (λ s place line. weather-wide (weatherRow s place)) count s place line end h
 
 -- Land that is refused has some.
 pub land-some : (count : ℕ) (s : List ℕ) (place line : ℕ) → RowsOf landWidth count (readLand count s place line .numbers)
 unfolding readLand
-land-some count s place line = some landWidth landAt (λ s place. land-wide (landRow s place)) count s place line
+land-some count s place line = some landWidth landAt (λ s place line. land-wide (landRow s place)) count s place line

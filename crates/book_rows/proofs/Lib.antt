@@ -1,1 +1,3 @@
 pub mod Laws
+pub mod RowKinds
+pub mod Found

@@ -1,7 +1,9 @@
--- The rows of the book's WEATHER and LAND sections: each line in its turn, up to the first that is
--- at fault. A byte is a number, a text a list of bytes, and `place` where a line begins.
+-- The rows of a text's lines, one after another, up to the first that is at fault: those of the
+-- book's WEATHER and LAND sections, and of a table. A byte is a number, a text a list of bytes, and
+-- `place` where a line begins.
 use mathlib.Core.List.{List, [], _++_}
-use Prim.Native.Nat.{ℕ, zero, suc}
+use mathlib.Core.Path.{_≡_}
+use Prim.Native.Nat.{ℕ, zero, suc, _<_, _^_}
 use lib.IntN.{ℤ, pos}
 use lib.ListN.{length, drop}
 use Rattle.month_state.specs.declared.Weather.{Weather}
@@ -24,27 +26,44 @@ use Rattle.book_rows.specs.declared.LandRow.the-variants as lands
 
 -- ---- a line as a row
 
--- The weather and the land of a line's values.
+-- The weather of a line's values, from a source of the evaporation.
+abbrev pub weatherFor : ℤ → ℤ → ℕ → ℕ → Weather
+weatherFor source temperature rain evaporation =
+    record {
+      temperature = temperature;
+      rain = pos rain;
+      evaporation = pos evaporation;
+      source = source;
+    }
+
+-- The weather and the land of a book's line. Its evaporation is open pan's: "book rows 0".
 abbrev pub weatherOf : ℤ → ℕ → ℕ → Weather
-weatherOf temperature rain evaporation =
-    record { temperature = temperature; rain = pos rain; evaporation = pos evaporation }
+weatherOf temperature rain evaporation = weatherFor (pos 0) temperature rain evaporation
 
 abbrev pub landOf : ℕ → ℕ → ℕ → Land
 landOf cover plant manure = record { cover = pos cover; plant = pos plant; manure = pos manure }
 
--- A weather line: another form is 2, then 13 and 14.
+-- A line of weather: another form is refused by its number (2 in a book, 18 in a table), then 13,
+-- 14 and 19 are asked.
 abbrev pub weatherPassed : Check → Weather → ℕ → WeatherRow
 weatherPassed Pass w next = weathers.Row w next
 weatherPassed (Refuse refusal) w next = weathers.Refused refusal
 
-abbrev pub asWeather : WeatherLine → WeatherRow
-asWeather (WeatherLine.Row temperature rain evaporation next) =
-    weatherPassed (weatherCheck (weatherOf temperature rain evaporation))
-    (weatherOf temperature rain evaporation) next
-asWeather WeatherLine.Malformed = weathers.Refused Form
+abbrev pub asWeather : Refusal → ℤ → WeatherLine → WeatherRow
+asWeather malformed source (WeatherLine.Row temperature rain evaporation next) =
+    weatherPassed (weatherCheck (weatherFor source temperature rain evaporation))
+    (weatherFor source temperature rain evaporation) next
+asWeather malformed source WeatherLine.Malformed = weathers.Refused malformed
 
+-- What `as_weather` has to be given: a line whose numbers fit 64 bits with a sign.
+pub record LineFits (line : WeatherLine) : Type 0 where
+  pub values : (temperature : ℤ) (rain evaporation next : ℕ)
+      → line ≡ WeatherLine.Row temperature rain evaporation next
+      → (rain < 2 ^ 63) × (evaporation < 2 ^ 63)
+
+-- A book's weather line.
 unfoldable pub weatherRow : List ℕ → ℕ → WeatherRow
-weatherRow s place = asWeather (weatherLine s place)
+weatherRow s place = asWeather Form (pos 0) (weatherLine s place)
 
 -- A land line: another form is 2. (15 to 17 are asked when its month runs.)
 abbrev pub asLand : LandLine → LandRow
@@ -82,10 +101,10 @@ rowThen (numbers row next) line later =
 rowThen (refused refusal) line later = record { numbers = []; ends = ends.Refused refusal line }
 
 -- So many rows of a kind, from the one at a place and on a line.
-unfoldable pub readRows : (List ℕ → ℕ → RowGives) → ℕ → List ℕ → ℕ → ℕ → RowsRead
+unfoldable pub readRows : (List ℕ → ℕ → ℕ → RowGives) → ℕ → List ℕ → ℕ → ℕ → RowsRead
 readRows row zero s place line = record { numbers = []; ends = ends.Next place }
 readRows row (suc left) s place line =
-    rowThen (row s place) line (λ next. readRows row left s next (suc line))
+    rowThen (row s place line) line (λ next. readRows row left s next (suc line))
 
 -- A slice that begins with these numbers; everything after them stays.
 abbrev pub begunWith : List ℤ → List ℤ → List ℤ
@@ -94,7 +113,8 @@ begunWith slice front = front ++ drop (length front) slice
 -- "every weather line is checked, used or not".
 unfoldable pub readWeather : ℕ → List ℕ → ℕ → ℕ → RowsRead
 readWeather count s place line =
-    readRows (λ text at. weatherGives (weatherRow text at)) count s place line
+    readRows (λ text at number. weatherGives (weatherRow text at)) count s place line
 
 unfoldable pub readLand : ℕ → List ℕ → ℕ → ℕ → RowsRead
-readLand count s place line = readRows (λ text at. landGives (landRow text at)) count s place line
+readLand count s place line =
+    readRows (λ text at number. landGives (landRow text at)) count s place line

@@ -1,10 +1,11 @@
 // The rows of the book's WEATHER and LAND sections, read from its lines into lent slices of
-// numbers. specs/Rows.antt says what each function gives.
+// numbers, and a line of weather as a row. specs/Rows.antt says what each function gives.
 ghost use mathlib.Core.Path.{_≡_};
 ghost use Prim.Native.Nat.{_*_, _≤_};
 ghost use lib.ListN.{length};
 ghost use Rattle.list_rows.specs.Rows.{weatherWidth, landWidth};
-ghost use Rattle.book_rows.specs.Rows.{weatherRow, landRow, readWeather, readLand, begunWith};
+ghost use Rattle.book_rows.specs.Rows.{LineFits, asWeather, weatherRow, landRow};
+ghost use Rattle.book_rows.specs.Rows.{readWeather, readLand, begunWith};
 use book_lines::LandLine;
 use book_lines::WeatherLine;
 use book_lines::land_line;
@@ -35,22 +36,32 @@ pub enum RowsEnd {
     Refused(Refusal, u64),
 }
 
-// The weather row at a place: another form of its line is 2, then 13 and 14.
-fn weather_row(s: &[u8], place: usize) -> WeatherRow
-    ensures { λ r. ⌜ r ≡ weatherRow (now (s .entry)) place ⌝ }
+// A line of weather as a row: another form is refused as `malformed`, then 13, 14 and 19 are asked.
+pub fn as_weather(malformed: Refusal, source: i64, line: WeatherLine) -> WeatherRow
+    requires { ⌜ LineFits line ⌝ }
+    ensures { λ r. ⌜ r ≡ asWeather malformed source line ⌝ }
 {
-    let WeatherLine::Row(temperature, rain, evaporation, next) = weather_line(s, place) else {
-        return WeatherRow::Refused(Refusal::Form);
+    let WeatherLine::Row(temperature, rain, evaporation, next) = line else {
+        return WeatherRow::Refused(malformed);
     };
     let row = Weather {
         temperature,
         rain: rain as i64,
         evaporation: evaporation as i64,
+        source,
     };
     match check_weather(row) {
         Check::Pass => WeatherRow::Row(row, next),
         Check::Refuse(refusal) => WeatherRow::Refused(refusal),
     }
+}
+
+// The weather row at a place of a book: another form of its line is 2.
+fn weather_row(s: &[u8], place: usize) -> WeatherRow
+    ensures { λ r. ⌜ r ≡ weatherRow (now (s .entry)) place ⌝ }
+{
+    let line = weather_line(s, place);
+    as_weather(Refusal::Form, 0, line)
 }
 
 // The land row at a place: another form of its line is 2.

@@ -1,4 +1,4 @@
--- A book finds what its list of questions finds, line by line: it gives document 01's number and line of the first that applies,
+-- A book finds what its list of questions finds, line by line: it gives the papers' number and line of the first that applies,
 -- and each refusal exactly where it is the first. So the earliest faulty line wins, then the lowest number.
 -- A section is its first line, by cases, and what follows. Only the land takes more: the book reads its rows up to the first
 -- that is malformed and then runs their months, where the questions are asked line by line.
@@ -9,12 +9,11 @@ use mathlib.Core.List.{List, [], _∷_, _++_, append-assoc}
 use Prim.Native.Nat.{ℕ, zero, suc, _+_, _*_}
 use native.Mathlib.Omega.{arith}
 use lib.Dec.{ltb, eqb}
-use lib.IntN.{ℤ}
+use lib.IntN.{ℤ, pos}
 use lib.ListN.{length, length-append}
 use Rattle.number_units.specs.declared.Grams.{Grams}
 use Rattle.month_state.specs.declared.State.{State}
 use Rattle.month_state.specs.declared.Land.{Land}
-use Rattle.month_state.specs.declared.Weather.{Weather}
 use Rattle.month_state.specs.State.{newState}
 use Rattle.list_rows.specs.Rows.{landWidth, landNumbers}
 use Rattle.list_rows.proofs.Layouts.{land-of-length, land-back}
@@ -23,7 +22,7 @@ use Rattle.month_refusals.specs.declared.Check.the-variants.{Pass, Refuse}
 use Rattle.month_refusals.specs.declared.Refusal.{Refusal}
 use Rattle.month_refusals.specs.declared.Refusal.the-variants.{Length, Form, Rows}
 use Rattle.month_refusals.specs.Asked.{_if_, firstOf, Placed, at, Found, nothing, refused, found, told, numberAndPlace, Exactly}
-use Rattle.month_refusals.specs.Refusals.{soilAsked, soilCheck, weatherAsked, weatherCheck, entriesAsked, entriesCheck}
+use Rattle.month_refusals.specs.Refusals.{soilAsked, soilCheck, entriesAsked, entriesCheck}
 use Rattle.month_refusals.proofs.First.{foundLater, orElse, foundAt, found-append, found-then, exactly}
 use Rattle.month_call.specs.Month.{listMonth}
 use Rattle.list_rows.specs.Rows.{landRows, entriesAt}
@@ -33,17 +32,16 @@ use Rattle.list_run.specs.Run.{monthsAsked, listFound}
 use Rattle.list_run.proofs.Refusals.{months-found}
 use Rattle.book_values.specs.declared.Value.{Value}
 use Rattle.book_lines.specs.declared.SoilLine.{SoilLine}
-use Rattle.book_lines.specs.declared.WeatherLine.{WeatherLine}
 use Rattle.book_lines.specs.declared.LandLine.{LandLine}
 use Rattle.book_lines.specs.Lines.{headLine, soilLine, weatherLine, landLine}
 use Rattle.book_rows.specs.declared.RowsEnd.{RowsEnd}
 use Rattle.book_rows.specs.declared.RowsEnd.the-variants as ends
-use Rattle.book_rows.specs.Rows.{landOf, weatherOf, weatherPassed, asWeather, weatherRow, asLand, landRow, weatherGives, landGives}
-use Rattle.book_rows.specs.Rows.{RowsRead, rowThen, readRows, readWeather, readLand}
+use Rattle.book_rows.specs.Rows.{landOf, weatherRow, asLand, landRow, landGives, RowsRead, rowThen, readRows, readWeather, readLand}
+use Rattle.book_rows.proofs.Found.{endFinds, weather-found}
 use Rattle.book_run.specs.Book.{BookLeft, refusedOn, bookFound, bookTold, soilName, weatherName, landName, notOne, badCount, headed}
 use Rattle.book_run.specs.Book.{ending, afterRows, afterMonths, landMonths, landSection, landHead, weatherThen, weatherSection}
 use Rattle.book_run.specs.Book.{weatherHead, soilOf, soilChecked, soilThen, soilSection, bookOf}
-use Rattle.book_run.specs.BookAsked.{formed, headThen, monthEntries, landLineThen, landAskedFrom, weatherLineThen, weatherAskedFrom}
+use Rattle.book_run.specs.BookAsked.{formed, headThen, monthEntries, landLineThen, landAskedFrom, weatherLinesAsked}
 use Rattle.book_run.specs.BookAsked.{afterWeather, landAsked, weatherSectionAsked, weatherHeadAsked, soilLineThen, soilSectionAsked, bookAsked}
 use Rattle.book_run.specs.declared.BookAnswer.{BookAnswer}
 use Rattle.book_run.specs.declared.BookAnswer.the-variants.{Finished, Refused}
@@ -171,36 +169,12 @@ module _ (s : List ℕ) (weather : List ℤ) (state : State) (rows : List ℕ) w
 
 -- ---- the weather
 
--- What the end of a reading finds.
-abbrev endFinds : RowsEnd → Found
-endFinds (ends.Next place) = nothing
-endFinds (ends.Refused refusal line) = refused refusal line
-
--- One line's check, one line, and so many lines.
-weather-checked :
-    (check : Check) (w : Weather) (next line : ℕ) (later : ℕ → RowsRead) (rest : Found) → endFinds (later next .ends) ≡ rest
-    → endFinds (rowThen (weatherGives (weatherPassed check w next)) line later .ends) ≡ orElse (foundAt line check) rest
-weather-checked Pass w next line later rest same = same
-weather-checked (Refuse refusal) w next line later rest same = refl
-
-weather-line :
-    (row : WeatherLine) (line : ℕ) (later : ℕ → RowsRead) (asked : ℕ → List Placed)
-    → ((next : ℕ) → endFinds (later next .ends) ≡ found (asked next))
-    → endFinds (rowThen (weatherGives (asWeather row)) line later .ends) ≡ found (weatherLineThen row line asked)
-unfolding found at firstOf
-weather-line (WeatherLine.Row temperature rain evaporation next) line later asked same =
-    let w = weatherOf temperature rain evaporation in
-    weather-checked (weatherCheck w) w next line later (found (asked next)) (same next)
-    ∙ sym (found-then line (formed (weatherAsked w)) (asked next))
-weather-line WeatherLine.Malformed line later asked same = refl
-
-weather-found :
+-- The weather's lines: a book's are those of any weather, by its refusal and its source.
+lines-found :
     (count : ℕ) (s : List ℕ) (place line : ℕ)
-    → endFinds (readWeather count s place line .ends) ≡ found (weatherAskedFrom count s place line)
-unfolding readWeather readRows weatherAskedFrom weatherRow found
-weather-found zero s place line = refl
-weather-found (suc count) s place line =
-    weather-line (weatherLine s place) line _ _ (λ next. weather-found count s next (suc line))
+    → endFinds (readWeather count s place line .ends) ≡ found (weatherLinesAsked count s place line)
+unfolding readWeather weatherRow
+lines-found count s place line = weather-found Form (pos 0) (λ text at number. weatherLine text at) count s place line
 
 -- The weather, and the land after it.
 weather-then :
@@ -217,7 +191,7 @@ module _ (s : List ℕ) (state : State) (rows : List ℕ) where
   weather-section-found count place =
       let weather = readWeather count s place 4 in
       weather-then (weather .ends) rows _ _ (λ next. land-head-found s (weather .numbers) state rows next (count + 4))
-      ∙ rw (weather-found count s place 4) (sym (found-append (weatherAskedFrom count s place 4) _))
+      ∙ rw (lines-found count s place 4) (sym (found-append (weatherLinesAsked count s place 4) _))
 
   weather-head-found : (place : ℕ) → finding (weatherHead s place state rows) ≡ found (weatherHeadAsked s place state)
   unfolding weatherHead weatherHeadAsked

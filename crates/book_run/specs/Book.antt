@@ -43,7 +43,7 @@ pub record BookLeft : Type 0 where
 abbrev pub refusedOn : Refusal → ℕ → List ℕ → BookLeft
 refusedOn refusal line rows = record { answer = Refused refusal line; rows = rows }
 
--- What a book's answer says is found, and document 01's number and line of it.
+-- What a book's answer says is found, and the papers' number and line of it.
 abbrev pub bookFound : BookAnswer → Found
 bookFound (Finished months pools co2) = nothing
 bookFound (Refused refusal line) = refused refusal line

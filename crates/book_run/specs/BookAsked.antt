@@ -6,7 +6,7 @@ use mathlib.Core.Bool.{Bool, true, false, not}
 use mathlib.Core.List.{List, [], _∷_, _++_}
 use Prim.Native.Nat.{ℕ, zero, suc, _+_, _*_, _%_}
 use lib.Dec.{ltb, eqb}
-use lib.IntN.{ℤ}
+use lib.IntN.{ℤ, pos}
 use lib.ListN.{length}
 use Rattle.month_state.specs.declared.State.{State}
 use Rattle.month_state.specs.declared.Land.{Land}
@@ -15,17 +15,17 @@ use Rattle.month_state.specs.State.{newState}
 use Rattle.list_rows.specs.Rows.{weatherWidth, weatherFrom}
 use Rattle.month_refusals.specs.declared.Refusal.the-variants.{Length, Form, Rows}
 use Rattle.month_refusals.specs.Asked.{Asked, _if_, Placed, at}
-use Rattle.month_refusals.specs.Refusals.{soilAsked, weatherAsked, entriesAsked}
+use Rattle.month_refusals.specs.Refusals.{soilAsked, entriesAsked}
 use Rattle.month_call.specs.Month.{listMonth}
 use Rattle.list_rows.specs.Rows.{weatherRows}
 use Rattle.book_values.specs.declared.Value.{Value}
 use Rattle.book_lines.specs.declared.SoilLine.{SoilLine}
-use Rattle.book_lines.specs.declared.WeatherLine.{WeatherLine}
 use Rattle.book_lines.specs.declared.LandLine.{LandLine}
 use Rattle.book_lines.specs.Lines.{headLine, soilLine, weatherLine, landLine}
 use Rattle.book_rows.specs.declared.RowsEnd.{RowsEnd}
 use Rattle.book_rows.specs.declared.RowsEnd.the-variants as ends
-use Rattle.book_rows.specs.Rows.{weatherOf, landOf, readWeather}
+use Rattle.book_rows.specs.Rows.{landOf, readWeather}
+use Rattle.book_rows.specs.RowsAsked.{weatherAskedFrom}
 use Rattle.book_run.specs.Book.{soilName, weatherName, landName, notOne, badCount, soilOf}
 
 -- 2 of a line, then what its values are asked.
@@ -57,7 +57,8 @@ unfoldable pub monthEntries : List ℤ → ℕ → Land → Entries
 monthEntries weather j l =
     record { weather = weatherFrom weather (weatherWidth * (j % weatherRows weather)); land = l }
 
--- A land line whose month is the one at place j: 2, then 12 to 17, and what follows it.
+-- A land line whose month is the one at place j: 2, then what its month's entries are asked, and
+-- what follows it.
 abbrev pub landLineThen : LandLine → ℕ → List ℤ → ℕ → State → (ℕ → State → List Placed) → List Placed
 landLineThen (LandLine.Row cover plant manure next) line weather j state later =
     at line (formed (entriesAsked state (monthEntries weather j (landOf cover plant manure))))
@@ -75,17 +76,11 @@ landAskedFrom (suc left) s place line weather j state =
 
 -- ---- weather lines
 
--- A weather line: 2, then 13 and 14, and what follows it.
-abbrev pub weatherLineThen : WeatherLine → ℕ → (ℕ → List Placed) → List Placed
-weatherLineThen (WeatherLine.Row temperature rain evaporation next) line later =
-    at line (formed (weatherAsked (weatherOf temperature rain evaporation))) ++ later next
-weatherLineThen WeatherLine.Malformed line later = at line malformed
-
--- So many weather lines from the one at a place and on a line.
-unfoldable pub weatherAskedFrom : ℕ → List ℕ → ℕ → ℕ → List Placed
-weatherAskedFrom zero s place line = []
-weatherAskedFrom (suc left) s place line =
-    weatherLineThen (weatherLine s place) line (λ next. weatherAskedFrom left s next (suc line))
+-- So many weather lines from the one at a place and on a line: each 2, then 13 and 14. (19 finds
+-- nothing: a book's evaporation is open pan's, 0.)
+abbrev pub weatherLinesAsked : ℕ → List ℕ → ℕ → ℕ → List Placed
+weatherLinesAsked count s place line =
+    weatherAskedFrom Form (pos 0) (λ text at number. weatherLine text at) count s place line
 
 -- What follows the weather, from the place of the next line.
 abbrev pub afterWeather : RowsEnd → (ℕ → List Placed) → List Placed
@@ -103,7 +98,7 @@ landAsked s place line weather state =
 -- `WEATHER n` on line 3, its lines, and the land.
 unfoldable pub weatherSectionAsked : ℕ → List ℕ → ℕ → State → List Placed
 weatherSectionAsked count s place state =
-    weatherAskedFrom count s place 4
+    weatherLinesAsked count s place 4
     ++ afterWeather (readWeather count s place 4 .ends)
     (λ next. landAsked s next (count + 4) (readWeather count s place 4 .numbers) state)
 

@@ -1,19 +1,18 @@
 -- The laws of the book's numbers, for the crates above: what is written is read back, and what is read stands in the
 -- text as it would be written. Assumes nothing.
-use mathlib.Core.Path.{_≡_, refl, sym, _∙_, ap, ap₂, subst}
+use mathlib.Core.Path.{_≡_, refl, sym, _∙_, ap, ap₂}
 use mathlib.Core.Bool.{true, false}
 use mathlib.Core.Logic.{inl, inr}
 use mathlib.Core.List.{List, [], _∷_, _++_}
 use Prim.Native.Nat.{ℕ, zero, suc, _+_, _-_, _*_, _^_, _≤_, _<_}
 use native.Mathlib.Nat.{add-zero, zero-add, pow-le-pow-right, mul-le-mul-left, mul-le-mul-right}
 use native.Mathlib.Nat.{lt-of-lt-of-le, le-trans}
-use native.Mathlib.Numerals.{add-one, sub-one}
+use native.Mathlib.Numerals.{sub-one}
 use native.Mathlib.Omega.{arith}
 use native.Mathlib.Decide.{decLt}
-use borrow.Author.Tests.{eq-eqb, ne-eqb, eqb-true}
-use lib.IntN.{ℤ, pos, negsuc, natAbs}
+use borrow.Author.Tests.{ne-eqb}
+use lib.IntN.{ℤ, natAbs}
 use lib.ListN.{length, getD, drop, length-drop, length-append}
-use lib.Seq.{getD-drop, drop-drop, drop-cons}
 use Rattle.book_digits.specs.Digits.{decimal, signedDecimal}
 use Rattle.book_digits.proofs.Digits.{
   DigitByte,
@@ -31,15 +30,7 @@ use Rattle.book_digits.proofs.Digits.{
 }
 use Rattle.book_values.specs.declared.Value.{Value}
 use Rattle.book_values.specs.declared.Signed.{Signed}
-use Rattle.book_values.specs.Values.{
-  isDigit,
-  byteIs,
-  moreDigits,
-  readValue,
-  withoutMinus,
-  afterMinus,
-  readSigned,
-}
+use Rattle.book_values.specs.Values.{isDigit, byteIs, moreDigits, readValue, readSigned}
 use Rattle.book_values.proofs.Reading.{
   Took,
   either,
@@ -52,20 +43,10 @@ use Rattle.book_values.proofs.Reading.{
   value-zero,
   value-digit,
   byte-is-read,
-  byte-is-within,
-  signed-minus,
-  signed-plain,
   took,
 }
-use Rattle.book_values.proofs.Minus.{plain-some, minus-some}
-
--- The byte at a place, and the text after it.
-byte-at : (s : List ℕ) (at : ℕ) (text : List ℕ) → drop at s ≡ text → getD s at 0 ≡ getD text 0 0
-byte-at s at text e =
-    ap (λ (k : ℕ). getD s k 0) (sym (add-zero at)) ∙ sym (getD-drop at s 0 0) ∙ ap (λ (l : List ℕ). getD l 0 0) e
-
-after-byte : (s : List ℕ) (at byte : ℕ) (rest : List ℕ) → drop at s ≡ byte ∷ rest → drop (at + 1) s ≡ rest
-after-byte s at byte rest e = sym (drop-drop 1 at s) ∙ ap (λ (l : List ℕ). drop 1 l) e
+use Rattle.book_values.proofs.Texts.{byte-there, byte-at, after, PartRead}
+use Rattle.book_values.proofs.Minus.{sign-round, sign-read}
 
 -- Digits with no digit after them are read to their end.
 more-round : (left value : ℕ) (s : List ℕ) (at : ℕ) {bytes : List ℕ} (rest : List ℕ) → Digits bytes →
@@ -80,7 +61,7 @@ more-round (suc left) value s at rest (more {byte} {bytes} b bs) h e d =
     let step : moreDigits (suc left) value s at ≡ moreDigits left v s (at + 1) =
     rw (sub-one, here) at (more-step (suc left) value s at (omega arith) (ap isDigit here ∙ digit-true b)) in
     step
-    ∙ more-round left v s (at + 1) rest bs (omega arith) (after-byte s at byte (bytes ++ rest) e) d
+    ∙ more-round left v s (at + 1) rest bs (omega arith) (after s at (byte ∷ []) (bytes ++ rest) e) d
     ∙ ap (Value.Number (folded v bytes)) (omega arith)
 
 -- ROUND TRIP. Where a text goes on with the decimal form of a number below 10^10, and after it with no digit, the
@@ -99,7 +80,7 @@ value-round (suc n) s at rest h e d =
     let ends : at + 1 + length (f .rest) ≡ at + length (decimal (suc n)) = omega (arith, ap length (f .is)) in
     value-digit s at (λ z. omega arith) (ap isDigit here ∙ digit-true (record { low = omega arith; high = omega arith }))
     ∙ more-round 9 (getD s at 0 - 48) s (at + 1) rest (f .digits) few
-    (after-byte s at (48 + f .first) (f .rest ++ rest) text) d
+    (after s at ((48 + f .first) ∷ []) (f .rest ++ rest) text) d
     ∙ ap₂ Value.Number (ap (λ (v : ℕ). folded v (f .rest)) first ∙ f .says) ends
 
 pub value-round-trip : (n : ℕ) (rest : List ℕ) → n < 10 ^ 10 → isDigit (getD rest 0 0) ≡ false →
@@ -107,28 +88,23 @@ pub value-round-trip : (n : ℕ) (rest : List ℕ) → n < 10 ^ 10 → isDigit (
 value-round-trip n rest h d =
     value-round n (decimal n ++ rest) 0 rest h refl d ∙ ap (Value.Number n) (zero-add (length (decimal n)))
 
--- A value that was read: it is below 10^10, it stands there in its decimal form, and the next place is the one after
--- that, above the place and within the text.
-pub record ValueRead (s : List ℕ) (at n next : ℕ) : Type 0 where
-  pub below : n < 10 ^ 10
-  pub text : drop at s ≡ decimal n ++ drop next s
-  pub ends : next ≡ at + length (decimal n)
-  pub above : at < next
-  pub within : next ≤ length s
+-- A value that was read: it is below 10^10, and stands there in its decimal form.
+abbrev pub ValueRead : List ℕ → ℕ → ℕ → ℕ → Type 0
+ValueRead s at n next = PartRead (10 ^ 10) s at n (decimal n) next
 
 value-read-of : (s : List ℕ) (at n next : ℕ) → n < 10 ^ 10 → drop at s ≡ decimal n ++ drop next s →
     next ≡ at + length (decimal n) → at < length s → ValueRead s at n next
 value-read-of s at n next h e ends l =
     let lengths : length s - at ≡ length (decimal n) + (length s - next) =
     simp (length-append, length-drop) at (ap length e) in
-    record { below = h; text = e; ends = ends; above = omega (arith, decimal-some n); within = omega arith }
+    record { below = h; text = e; above = omega (arith, decimal-some n); within = omega arith }
 
 zero-read : (s : List ℕ) (at n next : ℕ) → getD s at 0 ≡ 48 → at < length s → 0 ≡ n → at + 1 ≡ next →
     ValueRead s at n next
 zero-read s at n next z l zero-is ends =
     let is : decimal n ≡ 48 ∷ [] = ap decimal (sym zero-is) ∙ decimal-small 0 (omega arith) in
     value-read-of s at n next (omega arith)
-    (drop-cons s at 0 l ∙ ap₂ (λ (b k : ℕ). b ∷ drop k s) z (sym (add-one at) ∙ ends)
+    (byte-there s at l ∙ ap₂ (λ (b k : ℕ). b ∷ drop k s) z ends
     ∙ sym (ap (λ (l : List ℕ). l ++ drop next s) is))
     (omega (arith, ap length is)) l
 
@@ -146,7 +122,7 @@ digit-read s at n next low high l t =
     rw (← t .says) (lt-of-lt-of-le (below-power (byte - 48) (t .digits))
     (le-trans (mul-le-mul-right (10 ^ length (t .bytes)) ten) (mul-le-mul-left 10 power))) in
     value-read-of s at n next below
-    (drop-cons s at 0 l ∙ ap (λ (k : ℕ). byte ∷ drop k s) (sym (add-one at)) ∙ ap (λ (l : List ℕ). byte ∷ l) (t .text)
+    (byte-there s at l ∙ ap (λ (l : List ℕ). byte ∷ l) (t .text)
     ∙ sym (ap (λ (l : List ℕ). l ++ drop next s) is))
     (omega (arith, ap length is)) l
 
@@ -175,7 +151,7 @@ value-read s at n next e =
     ]
 
 -- A value doesn't begin with a minus.
-no-minus : (s : List ℕ) (at n next : ℕ) → readValue s at ≡ Value.Number n next → byteIs s at 45 ≡ false
+pub no-minus : (s : List ℕ) (at n next : ℕ) → readValue s at ≡ Value.Number n next → byteIs s at 45 ≡ false
 no-minus s at n next e =
     let b : DigitByte (getD s at 0) = digit-byte (getD s at 0) (value-digit-first s at n next e) in
     byte-is-read s at 45 (omega arith) ∙ ne-eqb (getD s at 0) 45 (λ m. omega arith)
@@ -184,17 +160,10 @@ no-minus s at n next e =
 pub signed-round : (z : ℤ) (s : List ℕ) (at : ℕ) (rest : List ℕ) → natAbs z < 10 ^ 10 →
     drop at s ≡ signedDecimal z ++ rest → isDigit (getD rest 0 0) ≡ false →
     readSigned s at ≡ Signed.Number z (at + length (signedDecimal z))
-unfolding signedDecimal
-signed-round (pos n) s at rest h e d =
-    let value : readValue s at ≡ Value.Number n (at + length (decimal n)) = value-round n s at rest h e d in
-    plain-some s at n (at + length (decimal n)) (no-minus s at n (at + length (decimal n)) value) value
-signed-round (negsuc n) s at rest h e d =
-    let minus : byteIs s at 45 ≡ true =
-    byte-is-read s at 45 (omega arith) ∙ eq-eqb (getD s at 0) 45 (byte-at s at (45 ∷ (decimal (suc n) ++ rest)) e) in
-    let value : readValue s (at + 1) ≡ Value.Number (suc n) (at + 1 + length (decimal (suc n))) =
-    value-round (suc n) s (at + 1) rest h (after-byte s at 45 (decimal (suc n) ++ rest) e) d in
-    minus-some s at (suc n) (at + 1 + length (decimal (suc n))) minus value (λ z. omega arith)
-    ∙ ap (Signed.Number (negsuc n)) (omega arith)
+unfolding signedDecimal readSigned
+signed-round z s at rest h e d =
+    sign-round readValue decimal z s at rest (λ n place below text. value-round n s place rest below text d)
+    (no-minus s at) h e
 
 pub signed-round-trip : (z : ℤ) (rest : List ℕ) → natAbs z < 10 ^ 10 → isDigit (getD rest 0 0) ≡ false →
     readSigned (signedDecimal z ++ rest) 0 ≡ Signed.Number z (length (signedDecimal z))
@@ -203,58 +172,10 @@ signed-round-trip z rest h d =
     ∙ ap (Signed.Number z) (zero-add (length (signedDecimal z)))
 
 -- A number with a sign that was read, in the same terms as a value.
-pub record SignedRead (s : List ℕ) (at : ℕ) (z : ℤ) (next : ℕ) : Type 0 where
-  pub below : natAbs z < 10 ^ 10
-  pub text : drop at s ≡ signedDecimal z ++ drop next s
-  pub ends : next ≡ at + length (signedDecimal z)
-  pub above : at < next
-  pub within : next ≤ length s
-
-plain-read : (s : List ℕ) (at n next : ℕ) → ValueRead s at n next → SignedRead s at (pos n) next
-unfolding signedDecimal
-plain-read s at n next v =
-    record { below = v .below; text = v .text; ends = v .ends; above = v .above; within = v .within }
-
-minus-read : (s : List ℕ) (at n next : ℕ) → byteIs s at 45 ≡ true → ValueRead s (at + 1) (suc n) next →
-    SignedRead s at (negsuc n) next
-unfolding signedDecimal
-minus-read s at n next b v =
-    let here : getD s at 0 ≡ 45 = eqb-true (getD s at 0) 45 (sym (byte-is-read s at 45 (omega arith)) ∙ b) in
-    record {
-      below = v .below;
-      text =
-          drop-cons s at 0 (byte-is-within s at 45 b)
-          ∙ ap₂ (λ (b k : ℕ). b ∷ drop k s) here (sym (add-one at)) ∙ ap (λ (l : List ℕ). 45 ∷ l) (v .text);
-      ends = omega arith;
-      above = omega arith;
-      within = v .within;
-    }
-
-signed-plain-read : (s : List ℕ) (at : ℕ) (v : Value) (z : ℤ) (next : ℕ) → readValue s at ≡ v →
-    withoutMinus v ≡ Signed.Number z next → SignedRead s at z next
-unfolding withoutMinus
-signed-plain-read s at (Value.Number n k) z next value e =
-    let sign : pos n ≡ z = cc in
-    let ends : k ≡ next = cc in
-    subst (λ (y : ℤ). SignedRead s at y next) sign
-    (plain-read s at n next (value-read s at n next (value ∙ ap (Value.Number n) ends)))
-signed-plain-read s at Value.Malformed z next value e = let n : _≡_ {A = ℕ} 0 1 = cc in absurd (omega arith)
-
-signed-minus-read : (s : List ℕ) (at : ℕ) (v : Value) (z : ℤ) (next : ℕ) → byteIs s at 45 ≡ true →
-    readValue s (at + 1) ≡ v → afterMinus v ≡ Signed.Number z next → SignedRead s at z next
-unfolding afterMinus
-signed-minus-read s at (Value.Number zero k) z next b value e = let n : _≡_ {A = ℕ} 0 1 = cc in absurd (omega arith)
-signed-minus-read s at (Value.Number (suc n) k) z next b value e =
-    let number : Signed.Number (negsuc n) k ≡ Signed.Number z next = rw (ne-eqb (suc n) 0 (λ z. omega arith)) at e in
-    let sign : negsuc n ≡ z = cc in
-    let ends : k ≡ next = cc in
-    subst (λ (y : ℤ). SignedRead s at y next) sign
-    (minus-read s at n next b (value-read s (at + 1) (suc n) next (value ∙ ap (Value.Number (suc n)) ends)))
-signed-minus-read s at Value.Malformed z next b value e = let n : _≡_ {A = ℕ} 0 1 = cc in absurd (omega arith)
+abbrev pub SignedRead : List ℕ → ℕ → ℤ → ℕ → Type 0
+SignedRead s at z next = PartRead (10 ^ 10) s at (natAbs z) (signedDecimal z) next
 
 pub signed-read : (s : List ℕ) (at : ℕ) (z : ℤ) (next : ℕ) → readSigned s at ≡ Signed.Number z next →
     SignedRead s at z next
-signed-read s at z next e = elim (either (byteIs s at 45)) [
-  | inl b ↦ signed-minus-read s at (readValue s (at + 1)) z next b refl (sym (signed-minus s at b) ∙ e)
-  | inr b ↦ signed-plain-read s at (readValue s at) z next refl (sym (signed-plain s at b) ∙ e)
-]
+unfolding signedDecimal readSigned
+signed-read s at z next e = sign-read readValue decimal s (value-read s) at z next e

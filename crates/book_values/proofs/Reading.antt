@@ -15,7 +15,7 @@ use lib.ListN.{length, getD, drop, List·getD-eq-default}
 use lib.Seq.{drop-cons}
 use Rattle.book_digits.proofs.Digits.{DigitByte, Digits, none, more, folded, one-more-below}
 use Rattle.book_values.specs.declared.Value.{Value}
-use Rattle.book_values.specs.Values.{isDigit, byteIs, moreDigits, readValue, withoutMinus, afterMinus, readSigned}
+use Rattle.book_values.specs.Values.{isDigit, byteIs, moreDigits, readValue}
 
 -- A test is true or false, and not both.
 pub either : (t : Bool) → (t ≡ true) ⊎ (t ≡ false)
@@ -34,7 +34,7 @@ pub digit-below : (byte : ℕ) → byte < 48 → isDigit byte ≡ false
 unfolding isDigit
 digit-below byte h = simp (lt-leb 48 byte h)
 
-digit-above : (byte : ℕ) → 57 < byte → isDigit byte ≡ false
+pub digit-above : (byte : ℕ) → 57 < byte → isDigit byte ≡ false
 unfolding isDigit
 digit-above byte h = simp (le-leb 48 byte (omega arith), lt-leb byte 57 h)
 
@@ -142,15 +142,6 @@ byte-is-within s at byte e = elim (decLt at (length s)) [
       let past : length s ≤ at = omega arith in
       absurd (contrary (rw (le-ltb at (length s) past) at e) refl)
 ]
-
--- How a value is read where it may have a minus: after the minus, or as it stands.
-pub signed-minus : (s : List ℕ) (at : ℕ) → byteIs s at 45 ≡ true → readSigned s at ≡ afterMinus (readValue s (at + 1))
-unfolding readSigned
-signed-minus s at e = rw (sym (byte-is-read s at 45 (omega arith)) ∙ e)
-
-pub signed-plain : (s : List ℕ) (at : ℕ) → byteIs s at 45 ≡ false → readSigned s at ≡ withoutMinus (readValue s at)
-unfolding readSigned
-signed-plain s at e = rw (sym (byte-is-read s at 45 (omega arith)) ∙ e)
 
 -- What was read by `moreDigits`: these bytes, all digits.
 pub record Took (left value : ℕ) (s : List ℕ) (at n next : ℕ) : Type 0 where

@@ -44,7 +44,11 @@ afterMinus (Value.Number n next) =
     cond (eqb n 0) Signed.Malformed (Signed.Number (negℤ (pos n)) next)
 afterMinus Value.Malformed = Signed.Malformed
 
--- "temperature alone may have a minus" (byte 45): a value, or a minus and a value.
+-- "may have a minus" (byte 45): what is read at the place, or a minus and what is read after it.
+abbrev pub signedBy : (List ℕ → ℕ → Value) → List ℕ → ℕ → Signed
+signedBy read s at =
+    cond (eqb (getD s at 0) 45) (afterMinus (read s (at + 1))) (withoutMinus (read s at))
+
+-- "temperature alone may have a minus": a value, or a minus and a value.
 unfoldable pub readSigned : List ℕ → ℕ → Signed
-readSigned s at =
-    cond (eqb (getD s at 0) 45) (afterMinus (readValue s (at + 1))) (withoutMinus (readValue s at))
+readSigned s at = signedBy readValue s at

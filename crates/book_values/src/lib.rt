@@ -1,10 +1,11 @@
 // The values of document 01's book, read at a place of a byte slice. specs/Values.antt says what
 // each function gives.
 ghost use mathlib.Core.Path.{_≡_};
-ghost use Prim.Native.Nat.{_≤_, _<_};
+ghost use mathlib.Core.Bool.{cond};
+ghost use Prim.Native.Nat.{ℕ, _^_, _≤_, _<_};
 ghost use lib.ListN.{length};
-ghost use Rattle.book_values.specs.Values.{isDigit, byteIs, moreDigits};
-ghost use Rattle.book_values.specs.Values.{readValue, readSigned};
+ghost use Rattle.book_values.specs.Values.{isDigit, byteIs, moreDigits, readValue};
+ghost use Rattle.book_values.specs.Values.{withoutMinus, afterMinus, readSigned};
 
 // What reading a value finds: the value with the place after it, or no value.
 pub enum Value {
@@ -19,7 +20,7 @@ pub enum Signed {
 }
 
 // Whether a byte is a digit.
-fn is_digit(byte: u8) -> bool
+pub fn is_digit(byte: u8) -> bool
     ensures { λ r. ⌜ r ≡ isDigit byte ⌝ }
 {
     if byte < 48 {
@@ -79,21 +80,31 @@ pub fn read_value(s: &[u8], at: usize) -> Value
     }
 }
 
-// The value at a place of the text, where it may have a minus.
-pub fn read_signed(s: &[u8], at: usize) -> Signed
-    ensures { λ r. ⌜ r ≡ readSigned (now (s .entry)) at ⌝ }
+// A value that was read after a minus, or without one. It fits 64 bits with a sign.
+pub fn with_sign(minus: bool, value: Value) -> Signed
+    requires { ⌜ ((n next : ℕ) → value ≡ Value.Number n next → n < 2 ^ 63) ⌝ }
+    ensures { λ r. ⌜ r ≡ cond minus (afterMinus value) (withoutMinus value) ⌝ }
 {
-    if byte_is(s, at, 45) {
-        let Value::Number(n, next) = read_value(s, at + 1) else {
-            return Signed::Malformed;
-        };
+    let Value::Number(n, next) = value else {
+        return Signed::Malformed;
+    };
+    if minus {
         if n == 0 {
             return Signed::Malformed;
         }
         return Signed::Number(-(n as i64), next);
     }
-    let Value::Number(n, next) = read_value(s, at) else {
-        return Signed::Malformed;
-    };
     Signed::Number(n as i64, next)
+}
+
+// The value at a place of the text, where it may have a minus.
+pub fn read_signed(s: &[u8], at: usize) -> Signed
+    ensures { λ r. ⌜ r ≡ readSigned (now (s .entry)) at ⌝ }
+{
+    if byte_is(s, at, 45) {
+        let value = read_value(s, at + 1);
+        return with_sign(true, value);
+    }
+    let value = read_value(s, at);
+    with_sign(false, value)
 }

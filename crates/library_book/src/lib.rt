@@ -10,7 +10,7 @@ use month_refusals::NumberAndPlace;
 use month_refusals::Refusal;
 use month_refusals::refusal_number;
 
-// Document 01's number of a book's answer, and the line.
+// The papers' number of a book's answer, and the line.
 fn book_told(answer: BookAnswer) -> NumberAndPlace
     ensures { λ r. ⌜ r ≡ bookTold answer ⌝ }
 {

@@ -4,6 +4,7 @@ ghost use mathlib.Core.Path.{_≡_};
 ghost use Rattle.library_month.specs.Calls.{rothcSurvival, rothcStart, rothcMonth};
 ghost use Rattle.library_list.specs.Calls.{rothcList, rothcSpinUp};
 ghost use Rattle.library_book.specs.Calls.{rothcBook};
+ghost use Rattle.library_table.specs.Calls.{rothcTable};
 
 #[no_mangle]
 pub extern "C" fn rothc_survival(n: u64, pool: u64) -> u64
@@ -74,4 +75,22 @@ pub extern "C" fn rothc_book(book: &[u8], out: &mut [u8], length: &mut u64) -> u
         ≡ rothcBook (now (book .entry)) (now (out .entry)) ⌝ }
 {
     library_book::book(book, out, length)
+}
+
+#[no_mangle]
+pub extern "C" fn rothc_table(
+    table: &[u8],
+    weather: &mut [i64],
+    rows: &mut u64,
+    place: &mut u64,
+) -> u64
+    ensures { λ r. ⌜ record {
+      number = r;
+      weather = now (weather .exit);
+      rows = now (rows .exit);
+      place = now (place .exit);
+    }
+        ≡ rothcTable (now (table .entry)) (now (weather .entry)) ⌝ }
+{
+    library_table::table(table, weather, rows, place)
 }

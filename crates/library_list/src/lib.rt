@@ -1,5 +1,5 @@
 // The bodies of rothc_list and rothc_spin_up: numbers and slices of numbers in lent memory. Each
-// call returns document 01's refusal number, 0 where nothing is refused, and 100 where memory of a
+// call returns the papers' refusal number, 0 where nothing is refused, and 100 where memory of a
 // fixed layout has another length.
 ghost use mathlib.Core.Path.{_≡_};
 ghost use lib.ListN.{length};
@@ -19,7 +19,7 @@ use spin_up::SpinAnswer;
 // How many numbers a result has.
 const RESULT_WIDTH: usize = 2;
 
-// Document 01's number and place of a list's answer.
+// The papers' number and place of a list's answer.
 fn list_told(answer: ListAnswer) -> NumberAndPlace
     ensures { λ r. ⌜ r ≡ listTold answer ⌝ }
 {
@@ -64,7 +64,7 @@ pub fn list(
     told.number
 }
 
-// Document 01's number and place of a spin-up's answer.
+// The papers' number and place of a spin-up's answer.
 fn spin_told(answer: SpinAnswer) -> NumberAndPlace
     ensures { λ r. ⌜ r ≡ spinTold answer ⌝ }
 {

@@ -23,8 +23,8 @@ use Rattle.month_call.specs.declared.Answer.the-variants.{Done, Refused}
 use Rattle.month_call.specs.declared.Outcome.{Outcome}
 use Rattle.month_call.specs.Month.{monthCall}
 
--- The number for lent memory of a fixed layout that has another length. It is none of document
--- 01's. Nothing is written then.
+-- The number for lent memory of a fixed layout that has another length. It is none of the
+-- papers'. Nothing is written then.
 abbrev pub shape : ℕ
 shape = 100
 

@@ -1,5 +1,5 @@
 // The bodies of rothc_survival, rothc_start and rothc_month: numbers and slices of numbers in lent
-// memory. Each call returns document 01's refusal number, 0 where nothing is refused, and 100 where
+// memory. Each call returns the papers' refusal number, 0 where nothing is refused, and 100 where
 // memory of a fixed layout has another length.
 ghost use mathlib.Core.Path.{_≡_};
 ghost use Rattle.library_month.specs.Calls.{rothcSurvival, rothcStart, rothcMonth};
@@ -19,7 +19,7 @@ use month_refusals::check_soil;
 use month_refusals::refusal_number;
 use month_state::State;
 
-// What is returned for a length that no layout has. It is none of document 01's numbers.
+// What is returned for a length that no layout has. It is none of the papers' numbers.
 pub const SHAPE: u64 = 100;
 
 // Step 4's survival number of a pool (0 DPM, 1 RPM, 2 BIO, 3 HUM) at a rate number, or the largest

@@ -1,11 +1,11 @@
 -- Laws of rows in lent memory: how many numbers they have, that what was put is read back, and that everything else stays.
 -- Assumes nothing.
-use mathlib.Core.Path.{_≡_, refl}
-use mathlib.Core.List.{List, _∷_, _++_}
+use mathlib.Core.Path.{_≡_, refl, sym, _∙_, ap}
+use mathlib.Core.List.{List, [], _∷_, _++_}
 use Prim.Native.Nat.{ℕ, _+_, _*_, _≤_, _<_}
 use native.Mathlib.Omega.{arith}
 use lib.IntN.{ℤ, pos}
-use lib.ListN.{length, getD}
+use lib.ListN.{length, getD, drop}
 use lib.Seq.{getD-append-seam, getD-append-add, length-sets}
 use Rattle.month_state.specs.declared.Weather.{Weather}
 use Rattle.month_state.specs.declared.Land.{Land}
@@ -27,9 +27,33 @@ unfolding weatherFrom weatherNumbers
 weather-back before rest w =
     let all = weatherNumbers w ++ rest in
     λ i. record {
-      temperature = getD-append-seam before (w .temperature) (w .rain ∷ w .evaporation ∷ rest) (pos 0) i;
+      temperature = getD-append-seam before (w .temperature) (w .rain ∷ w .evaporation ∷ w .source ∷ rest) (pos 0) i;
       rain = getD-append-add before all 1 (pos 0) i;
       evaporation = getD-append-add before all 2 (pos 0) i;
+      source = getD-append-add before all 3 (pos 0) i;
+    }
+
+-- Its numbers say the row, and what stands after them.
+pub weather-same :
+    (w v : Weather) (rest rest' : List ℤ) → weatherNumbers w ++ rest ≡ weatherNumbers v ++ rest' → (w ≡ v) × (rest ≡ rest')
+unfolding weatherNumbers
+weather-same w v rest rest' e =
+    (sym (weather-back [] rest w) ∙ ap (λ (l : List ℤ). weatherFrom l 0) e ∙ weather-back [] rest' v, ap (drop weatherWidth) e)
+
+-- A weather row is read past other numbers as it is without them.
+past : (before rest : List ℤ) (place c : ℕ) → getD (before ++ rest) (length before + place + c) (pos 0) ≡ getD rest (place + c) (pos 0)
+past before rest place c =
+    let further : length before + place + c ≡ length before + (place + c) = omega arith in
+    rw further (getD-append-add before rest (place + c) (pos 0))
+
+pub weather-past : (before rest : List ℤ) (place : ℕ) → weatherFrom (before ++ rest) (length before + place) ≡ weatherFrom rest place
+unfolding weatherFrom
+weather-past before rest place =
+    λ i. record {
+      temperature = getD-append-add before rest place (pos 0) i;
+      rain = past before rest place 1 i;
+      evaporation = past before rest place 2 i;
+      source = past before rest place 3 i;
     }
 
 -- ---- land rows

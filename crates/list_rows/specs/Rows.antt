@@ -15,7 +15,7 @@ use Rattle.month_state.specs.declared.Row.{Row}
 
 -- How many numbers each has.
 abbrev pub weatherWidth : ℕ
-weatherWidth = 3
+weatherWidth = 4
 
 abbrev pub landWidth : ℕ
 landWidth = 3
@@ -32,13 +32,14 @@ signedAt numbers place = getD numbers place (pos 0)
 
 -- ---- a month's entries, and rows of them
 
--- A weather row from a place on: temperature, rain, evaporation.
+-- A weather row from a place on: temperature, rain, evaporation, and the evaporation's source.
 unfoldable pub weatherFrom : List ℤ → ℕ → Weather
 weatherFrom numbers place =
     record {
       temperature = signedAt numbers place;
       rain = signedAt numbers (place + 1);
       evaporation = signedAt numbers (place + 2);
+      source = signedAt numbers (place + 3);
     }
 
 -- A land row from a place on: cover, plant, manure.
@@ -56,7 +57,7 @@ entriesOf numbers = record { weather = weatherFrom numbers 0; land = landFrom nu
 
 -- The numbers of a weather row and of a land row, as they are read.
 unfoldable pub weatherNumbers : Weather → List ℤ
-weatherNumbers w = w .temperature ∷ w .rain ∷ w .evaporation ∷ []
+weatherNumbers w = w .temperature ∷ w .rain ∷ w .evaporation ∷ w .source ∷ []
 
 unfoldable pub landNumbers : Land → List ℤ
 landNumbers l = l .cover ∷ l .plant ∷ l .manure ∷ []
@@ -96,7 +97,8 @@ abbrev pub landRows : List ℤ → ℕ
 landRows land = length land / landWidth
 
 -- 3: "the number of weather or land rows lent to a list, is outside 1 to 1,200, or a list isn't
--- three numbers a row": so many numbers, in rows of a width.
+-- three numbers a row"; and "four numbers a weather row" (change 2026-01): so many numbers, in rows
+-- of a width.
 unfoldable pub rowsOutside : ℕ → ℕ → Bool
 rowsOutside width count =
     not (eqb (count % width) 0) || (ltb (count / width) 1 || ltb 1200 (count / width))

@@ -14,7 +14,7 @@ use month_state::Row;
 use month_state::Weather;
 
 // How many numbers each has.
-pub const WEATHER_WIDTH: usize = 3;
+pub const WEATHER_WIDTH: usize = 4;
 
 pub const LAND_WIDTH: usize = 3;
 
@@ -31,6 +31,7 @@ fn weather_from(numbers: &[i64], place: usize) -> Weather
         temperature: numbers[place],
         rain: numbers[place + 1],
         evaporation: numbers[place + 2],
+        source: numbers[place + 3],
     }
 }
 
@@ -64,10 +65,12 @@ pub fn put_weather(numbers: &mut [i64], i: usize, w: Weather)
     let temperature = w.temperature;
     let rain = w.rain;
     let evaporation = w.evaporation;
+    let source = w.source;
     let place = WEATHER_WIDTH * i;
     numbers[place] = temperature;
     numbers[place + 1] = rain;
     numbers[place + 2] = evaporation;
+    numbers[place + 3] = source;
 }
 
 // Land row i, counted from 0, written in lent memory.

@@ -64,7 +64,7 @@ module _ (s : State) (weather land : List ℤ) (out : List ℕ) where
   pub list-exactly : Exactly (listAsked s weather land (length out)) (finding (run s weather land out))
   list-exactly = exactly list-found
 
--- What it asks before its months is part of document 01's list, in its order; so is what it asks of a month.
+-- What it asks before its months is part of the papers' list, in its order; so is what it asks of a month.
 pub before-in-order : (s : State) (weather land : List ℤ) (room : ℕ) → partOf checkingOrder (beforeMonths s weather land room) ≡ true
 unfolding partOf beforeMonths rowsAsked soilAsked roomAsked boundsAsked
 before-in-order s weather land room = refl

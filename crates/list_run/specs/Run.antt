@@ -1,5 +1,5 @@
 -- A list of months, step 7 of document 01, and what it asks: 3, 4 to 7, 8 and 10 with place 0, then
--- month by month 12 to 17.
+-- month by month what a month's entries are asked.
 use mathlib.Core.Bool.{_||_}
 use mathlib.Core.List.{List, [], _∷_, _++_}
 use Prim.Native.Nat.{ℕ, zero, suc, _+_, _-_, _*_}
@@ -79,7 +79,8 @@ unfoldable pub beforeMonths : State → List ℤ → List ℤ → ℕ → List A
 beforeMonths s weather land room =
     rowsAsked weather land ++ (soilAsked (s .soil) ++ (roomAsked (landRows land) room ++ boundsAsked s))
 
--- 12 to 17 of so many months from the one at place j, each at its month counted from 1.
+-- What the entries of so many months are asked, from the month at place j on, each at its month
+-- counted from 1.
 unfoldable pub monthsAsked : ℕ → List ℤ → List ℤ → ℕ → State → List Placed
 monthsAsked zero weather land j s = []
 monthsAsked (suc left) weather land j s =
@@ -104,7 +105,7 @@ run s weather land out =
     listChecked (firstOf (beforeMonths s weather land (length out))) s out
     (months (landRows land) weather land 0 s out)
 
--- What a list's answer says is found, and document 01's number and place of it.
+-- What a list's answer says is found, and the papers' number and place of it.
 abbrev pub listFound : ListAnswer → Found
 listFound answers.Finished = nothing
 listFound (answers.Refused refusal place) = refused refusal place

@@ -121,7 +121,7 @@ fn check_list(s: State, weather: &[i64], land: &[i64], room: usize) -> Check
 }
 
 // A list of months: one for each land row, the weather rows taken in turn and again from the first.
-// Its refusals are document 01's, each given exactly where it is the first that applies.
+// Its refusals are the papers', each given exactly where it is the first that applies.
 pub fn run(s: State, weather: &[i64], land: &[i64], out: &mut [u64]) -> ListOutcome
     ensures left { λ r. ⌜ record { outcome = r; output = now (out .exit) }
         ≡ run s (now (weather .entry)) (now (land .entry)) (now (out .entry)) ⌝ }

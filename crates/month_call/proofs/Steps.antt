@@ -68,7 +68,7 @@ state-rate-most s e h r = rate-most (s .soil) (nextDeficit s e) e (h .soil) (r .
 -- The new deficit is at most M.
 pub deficit-most : (s : State) (e : Entries) → Sound s → nextDeficit s e ≤ largestDeficit (s .soil)
 unfolding nextDeficit deficitAfter
-deficit-most s e h = newDeficit-top _ _ _ _ _ (h .deficit)
+deficit-most s e h = newDeficit-top _ _ _ _ _ _ (h .deficit)
 
 -- The survival numbers are at most 1,000,000,000.
 pub survivals-in-range : (n : ℕ) → n ≤ 8363900000 → Survivals (survivals n)

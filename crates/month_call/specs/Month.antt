@@ -16,6 +16,7 @@ use Rattle.step_decay.specs.Decay.{losses, carbonDioxide, decayed}
 use Rattle.step_additions.specs.Additions.{added}
 use Rattle.month_state.specs.declared.Soil.{Soil}
 use Rattle.month_state.specs.declared.State.{State}
+use Rattle.month_state.specs.declared.Weather.{Weather}
 use Rattle.month_state.specs.declared.Land.{Land}
 use Rattle.month_state.specs.declared.Entries.{Entries}
 use Rattle.month_state.specs.declared.Row.{Row}
@@ -34,6 +35,10 @@ use Rattle.month_call.specs.declared.Outcome.{Outcome}
 abbrev pub crop : Land → Bool
 crop l = eqb (natAbs (l .cover)) 1
 
+-- Source 1 is potential evapotranspiration.
+abbrev pub potential : Weather → Bool
+potential w = eqb (natAbs (w .source)) 1
+
 -- M of a soil.
 abbrev pub largestDeficit : Soil → ℕ
 largestDeficit s = maxDeficit (s .clay) (s .depth)
@@ -42,7 +47,7 @@ largestDeficit s = maxDeficit (s .clay) (s .depth)
 unfoldable pub deficitAfter : Soil → ℕ → Entries → ℕ
 deficitAfter s d e =
     newDeficit (crop (e .land)) (largestDeficit s) d
-    (natAbs (e .weather .evaporation)) (natAbs (e .weather .rain))
+    (potential (e .weather)) (natAbs (e .weather .evaporation)) (natAbs (e .weather .rain))
 
 -- Steps 1, 3 and 4: N, from the new deficit d. (001's rate modifying factors a, b and c,
 -- multiplied.)
@@ -98,7 +103,7 @@ nextDeficit s e = deficitAfter (s .soil) (s .deficit .0) e
 unfoldable pub nextRate : State → Entries → ℕ
 nextRate s e = rateAfter (s .soil) (nextDeficit s e) e
 
--- What a state and its month's entries have to pass: 4 to 7 and 10, and 12 to 17.
+-- What a state and its month's entries have to pass: 4 to 7 and 10, and 12 to 17 with 19.
 pub record Accepted (s : State) (e : Entries) : Type 0 where
   pub state : stateCheck s ≡ Pass
   pub entries : entriesCheck s e ≡ Pass
@@ -117,7 +122,7 @@ outcomeOf (Refuse refusal) s e = record { answer = Refused refusal; state = s }
 unfoldable pub monthCall : State → ℕ → Entries → Outcome
 monthCall s number e = outcomeOf (monthCheck s number e) s e
 
--- .. and a list's month, of which 12 to 17 are asked and no month number.
+-- .. and a list's month, of which 12 to 17 and 19 are asked and no month number.
 unfoldable pub listMonth : State → Entries → Outcome
 listMonth s e = outcomeOf (entriesCheck s e) s e
 
@@ -128,6 +133,6 @@ abbrev pub answerFound : Answer → Found
 answerFound (Done row) = nothing
 answerFound (Refused refusal) = refused refusal 0
 
--- Document 01's number and place of an answer.
+-- The papers' number and place of an answer.
 abbrev pub answerTold : Answer → NumberAndPlace
 answerTold answer = numberAndPlace (answerFound answer)

@@ -11,9 +11,9 @@ ghost use Rattle.step_additions.specs.Additions.{added};
 ghost use Rattle.month_state.specs.State.{carbonCeiling};
 ghost use Rattle.month_refusals.specs.declared.Check.the-variants.{Pass};
 ghost use Rattle.month_refusals.specs.Asked.{at, told};
-ghost use Rattle.month_refusals.specs.Refusals.{monthAsked, stateCheck, landCheck};
-ghost use Rattle.month_call.specs.Month.{crop, largestDeficit, nextDeficit, rateAfter, gasOf};
-ghost use Rattle.month_call.specs.Month.{Accepted, outcomeOf};
+ghost use Rattle.month_refusals.specs.Refusals.{monthAsked, stateCheck, weatherCheck, landCheck};
+ghost use Rattle.month_call.specs.Month.{crop, potential, largestDeficit, nextDeficit};
+ghost use Rattle.month_call.specs.Month.{rateAfter, gasOf, Accepted, outcomeOf};
 ghost use Rattle.month_call.specs.Month.{monthCall, listMonth, answerTold};
 use month_checks::check_entries;
 use month_checks::check_month;
@@ -24,6 +24,7 @@ use month_state::Land;
 use month_state::Row;
 use month_state::Soil;
 use month_state::State;
+use month_state::Weather;
 use month_state::natural;
 use number_units::Grams;
 use number_units::Parts;
@@ -59,6 +60,15 @@ fn under_crop(l: Land) -> bool
     cover == 1
 }
 
+// Whether the evaporation is potential evapotranspiration, and not that of an open pan.
+fn is_potential(w: Weather) -> bool
+    requires { ⌜ weatherCheck w ≡ Pass ⌝ }
+    ensures { λ r. ⌜ r ≡ potential w ⌝ }
+{
+    let source = natural(w.source);
+    source == 1
+}
+
 // Step 3: the new deficit.
 fn deficit_after(s: State, e: Entries) -> Parts
     requires { ⌜ Accepted s e ⌝ }
@@ -70,9 +80,10 @@ fn deficit_after(s: State, e: Entries) -> Parts
     let land = e.land;
     let crop = under_crop(land);
     let largest = max_deficit(soil.clay, soil.depth);
+    let potential = is_potential(weather);
     let evaporation = natural(weather.evaporation);
     let rain = natural(weather.rain);
-    new_deficit(crop, largest, deficit, evaporation, rain)
+    new_deficit(crop, largest, deficit, potential, evaporation, rain)
 }
 
 // Steps 1, 3 and 4: the rate number, d being the new deficit.
@@ -173,7 +184,7 @@ fn after_check(check: Check, s: State, e: Entries) -> Outcome
     }
 }
 
-// The single month call. The answer's number and place are document 01's.
+// The single month call. The answer's number and place are the papers'.
 pub fn month(s: State, number: u64, e: Entries) -> Outcome
     ensures outcome { λ r. ⌜ r ≡ monthCall s number e ⌝ }
     ensures told { λ r. ⌜ answerTold (r .answer) ≡ told (at 0 (monthAsked s number e)) ⌝ }

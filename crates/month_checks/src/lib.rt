@@ -1,11 +1,11 @@
-// Document 01's checks of a month's weather, of its entries and of a single month call, each in
-// document 01's order.
+// The papers' checks of a month's weather, of its entries and of a single month call, each in the
+// papers' order.
 ghost use mathlib.Core.Path.{_≡_};
 ghost use mathlib.Core.List.{_++_};
 ghost use Rattle.month_refusals.specs.declared.Check.the-variants.{Pass};
 ghost use Rattle.month_refusals.specs.Asked.{Finds};
 ghost use Rattle.month_refusals.specs.Refusals.{outside, temperatureOutside, waterOutside};
-ghost use Rattle.month_refusals.specs.Refusals.{coverOutside, additionsOutside};
+ghost use Rattle.month_refusals.specs.Refusals.{sourceOutside, coverOutside, additionsOutside};
 ghost use Rattle.month_refusals.specs.Refusals.{ceilingPassed, stateAsked, turnAsked, weatherAsked};
 ghost use Rattle.month_refusals.specs.Refusals.{landAsked, carbonAsked};
 ghost use Rattle.month_refusals.specs.Refusals.{entriesAsked, monthAsked, stateCheck, landCheck};
@@ -58,7 +58,14 @@ fn water_outside(w: Weather) -> bool
     outside(0, 20_000, w.evaporation)
 }
 
-// 13 and 14: a month's weather, or a weather line.
+// 19: the evaporation's source is neither 0 nor 1.
+fn source_outside(w: Weather) -> bool
+    ensures { λ r. ⌜ r ≡ sourceOutside w ⌝ }
+{
+    outside(0, 1, w.source)
+}
+
+// 13, 14 and 19: a month's weather, or a line of weather.
 pub fn check_weather(w: Weather) -> Check
     ensures { λ r. ⌜ Finds (weatherAsked w) r ⌝ }
 {
@@ -67,6 +74,9 @@ pub fn check_weather(w: Weather) -> Check
     }
     if water_outside(w) {
         return Check::Refuse(Refusal::Water);
+    }
+    if source_outside(w) {
+        return Check::Refuse(Refusal::Source);
     }
     Check::Pass
 }
@@ -131,7 +141,7 @@ fn check_carbon(s: State, l: Land) -> Check
     }
 }
 
-// 12 to 17: the entries of a month of a state that passes 4 to 7 and 10.
+// 12 to 17, with 19 after 14: the entries of a month of a state that passes 4 to 7 and 10.
 pub fn check_entries(s: State, e: Entries) -> Check
     requires { ⌜ stateCheck s ≡ Pass ⌝ }
     ensures { λ r. ⌜ Finds (entriesAsked s e) r ⌝ }
@@ -148,7 +158,7 @@ pub fn check_entries(s: State, e: Entries) -> Check
     }
 }
 
-// 11 to 17, of a state that passes 4 to 7 and 10.
+// 11, then 12 to 17 with 19 after 14, of a state that passes 4 to 7 and 10.
 fn check_turn(s: State, number: u64, e: Entries) -> Check
     requires { ⌜ stateCheck s ≡ Pass ⌝ }
     ensures { λ r. ⌜ Finds (turnAsked s number ++ entriesAsked s e) r ⌝ }
@@ -160,7 +170,7 @@ fn check_turn(s: State, number: u64, e: Entries) -> Check
     check_entries(s, e)
 }
 
-// 4 to 7 and 10 to 17: a single month call.
+// 4 to 7, 10 to 17, and 19 after 14: a single month call.
 pub fn check_month(s: State, number: u64, e: Entries) -> Check
     ensures { λ r. ⌜ Finds (monthAsked s number e) r ⌝ }
 {

@@ -23,7 +23,8 @@ use Rattle.month_state.proofs.Tests.{either-true, either-false, false-either}
 use Rattle.month_refusals.specs.declared.Check.the-variants.{Pass, Refuse}
 use Rattle.month_refusals.specs.declared.Refusal.the-variants.{Turn}
 use Rattle.month_refusals.specs.Refusals.{clayOutside, depthOutside, kindOther, carbonAbove, boundsPassed, outOfTurn, limitReached}
-use Rattle.month_refusals.specs.Refusals.{outside, temperatureOutside, waterOutside, coverOutside, additionsOutside, ceilingPassed}
+use Rattle.month_refusals.specs.Refusals.{outside, temperatureOutside, waterOutside, sourceOutside, coverOutside, additionsOutside}
+use Rattle.month_refusals.specs.Refusals.{ceilingPassed}
 use Rattle.month_refusals.specs.Refusals.{soilAsked, boundsAsked, stateAsked, turnAsked, weatherAsked, landAsked, carbonAsked}
 use Rattle.month_refusals.specs.Refusals.{entriesAsked, monthAsked}
 use Rattle.month_refusals.specs.Refusals.{soilCheck, stateCheck, weatherCheck, landCheck, entriesCheck, monthCheck}
@@ -52,11 +53,12 @@ pub record Between (first last z : ℤ) : Type 0 where
   pub from : first ≤ℤ z
   pub to : z ≤ℤ last
 
--- None of 13 and 14 applies.
+-- None of 13, 14 and 19 applies.
 pub record WeatherReady (w : Weather) : Type 0 where
   pub temperature : Between (negsuc 399) (pos 500) (w .temperature)
   pub rain : Between (pos 0) (pos 20000) (w .rain)
   pub evaporation : Between (pos 0) (pos 20000) (w .evaporation)
+  pub source : Between (pos 0) (pos 1) (w .source)
 
 -- None of 15 and 16 applies.
 pub record LandReady (l : Land) : Type 0 where
@@ -64,7 +66,7 @@ pub record LandReady (l : Land) : Type 0 where
   pub plant : Between (pos 0) (pos 100000000) (l .plant)
   pub manure : Between (pos 0) (pos 100000000) (l .manure)
 
--- None of 12 to 17 applies.
+-- None of 12 to 17 and 19 applies.
 pub record Ready (s : State) (e : Entries) : Type 0 where
   pub months : s .months < monthLimit
   pub weather : WeatherReady (e .weather)
@@ -188,21 +190,28 @@ pub natural-most : (k : ℕ) (z : ℤ) → Between (pos 0) (pos k) z → natAbs 
 natural-most k (pos n) h = leb→le n k (h .to .le)
 natural-most k (negsuc n) h = absurd (h .from .le)
 
--- ---- 12 to 17
+-- ---- 12 to 17 and 19
 
 pub weather-ready : (w : Weather) → weatherCheck w ≡ Pass → WeatherReady w
-unfolding weatherAsked temperatureOutside waterOutside
+unfolding weatherAsked temperatureOutside waterOutside sourceOutside
 weather-ready w h =
     let temperature = passes-one _ _ h in
     let water = passes-one _ _ (temperature .1) in
+    let source = passes-one _ _ (water .1) in
     let waters = either-false (outside (pos 0) (pos 20000) (w .rain)) _ (water .0) in
-    record { temperature = inside _ _ _ (temperature .0); rain = inside _ _ _ (waters .0); evaporation = inside _ _ _ (waters .1) }
+    record {
+      temperature = inside _ _ _ (temperature .0);
+      rain = inside _ _ _ (waters .0);
+      evaporation = inside _ _ _ (waters .1);
+      source = inside _ _ _ (source .0);
+    }
 
 pub weather-passes : (w : Weather) → WeatherReady w → weatherCheck w ≡ Pass
-unfolding firstOf weatherAsked temperatureOutside waterOutside
+unfolding firstOf weatherAsked temperatureOutside waterOutside sourceOutside
 weather-passes w h =
     one-passes _ (not-outside _ _ _ (h .temperature))
-    (one-passes _ (false-either (not-outside _ _ _ (h .rain)) (not-outside _ _ _ (h .evaporation))) refl)
+    (one-passes _ (false-either (not-outside _ _ _ (h .rain)) (not-outside _ _ _ (h .evaporation)))
+    (one-passes _ (not-outside _ _ _ (h .source)) refl))
 
 pub land-ready : (l : Land) → landCheck l ≡ Pass → LandReady l
 unfolding landAsked coverOutside additionsOutside

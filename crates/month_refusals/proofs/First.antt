@@ -2,7 +2,7 @@
 -- in the list does, and nothing is found exactly where none applies. With it, how lists are joined and placed.
 -- Assumes nothing.
 use mathlib.Core.Path.{_≡_, refl, sym, _∙_, ap}
-use mathlib.Core.Bool.{Bool, true, false}
+use mathlib.Core.Bool.{Bool, true, false, not, _||_, _&&_}
 use mathlib.Core.List.{List, [], _∷_, _++_}
 use Prim.Native.Nat.{ℕ, _+_}
 use native.Mathlib.Omega.{arith}
@@ -123,6 +123,32 @@ passes-parts a b h = followed-passes (firstOf a) (firstOf b) (sym (first-append 
 
 pub parts-pass : (a b : List Asked) → firstOf a ≡ Pass → firstOf b ≡ Pass → firstOf (a ++ b) ≡ Pass
 parts-pass a b ha hb = rw ha at (first-append a b) ∙ hb
+
+-- All that is asked and may apply are a call's own refusals.
+abbrev pub allOwn : (Refusal → Bool) → List Asked → Bool
+allOwn own [] = true
+allOwn own (x ∷ later) = (own (x .refusal) || not (x .applies)) && allOwn own later
+
+both-true : (a b : Bool) → (a && b) ≡ true → (a ≡ true) × (b ≡ true)
+both-true true b h = (refl, h)
+both-true false b h = absurd (let z : _≡_ {A = ℕ} 0 1 = cc in omega arith)
+
+own-applies : (own : Bool) → (own || false) ≡ true → own ≡ true
+own-applies true h = refl
+own-applies false h = h
+
+-- A check finds one of them.
+pub finds-own : (own : Refusal → Bool) (asked : List Asked) {r : Refusal} → allOwn own asked ≡ true → firstOf asked ≡ Refuse r → own r ≡ true
+unfolding firstOf
+finds-own own [] all h = absurd (let z : _≡_ {A = ℕ} 0 1 = cc in omega arith)
+finds-own own (x ∷ later) all h =
+    let both = both-true _ _ all in
+    by-test (x .applies) (x .refusal) (firstOf later) (both .0) (finds-own own later (both .1)) h
+  where
+    by-test : {r : Refusal} (test : Bool) (reason : Refusal) (rest : Check) → (own reason || not test) ≡ true
+        → (rest ≡ Refuse r → own r ≡ true) → given test reason rest ≡ Refuse r → own r ≡ true
+    by-test {r} true reason rest is later h = let same : reason ≡ r = cc in rw (sym same) (own-applies (own reason) is)
+    by-test false reason rest is later h = later h
 
 -- ---- exactly
 

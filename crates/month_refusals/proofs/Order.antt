@@ -1,4 +1,4 @@
--- What a single month call asks is part of document 01's list, in its order.
+-- What a single month call asks is part of the papers' list, in its order.
 -- Assumes nothing.
 use mathlib.Core.Path.{_≡_, refl}
 use mathlib.Core.Bool.{true}

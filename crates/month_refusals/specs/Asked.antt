@@ -27,11 +27,13 @@ use Rattle.month_refusals.specs.declared.Refusal.the-variants.{
   Cover,
   Additions,
   Ceiling,
+  TableForm,
+  Source,
 }
 
 -- ---- numbers
 
--- Document 01's number of each refusal.
+-- The number of each refusal: document 01's, and from 18 on those of document 02.
 abbrev pub refusalNumber : Refusal → ℕ
 refusalNumber Length = 1
 refusalNumber Form = 2
@@ -50,6 +52,8 @@ refusalNumber Water = 14
 refusalNumber Cover = 15
 refusalNumber Additions = 16
 refusalNumber Ceiling = 17
+refusalNumber TableForm = 18
+refusalNumber Source = 19
 
 -- The number of what a check finds, 0 where it finds nothing.
 abbrev pub checkNumber : Check → ℕ
@@ -77,11 +81,12 @@ unfoldable pub firstOf : List Asked → Check
 firstOf [] = Pass
 firstOf (asked ∷ later) = given (asked .applies) (asked .refusal) (firstOf later)
 
--- Document 01's list of refusals in checking order. Each call asks its part of it.
+-- Document 01's list of refusals in checking order, with change 2026-01's: 18 before a table line's
+-- 13 and 14, and 19 "after 14". Each call asks its part of it.
 abbrev pub checkingOrder : List Refusal
 checkingOrder =
-    Length ∷ Form ∷ Rows ∷ Clay ∷ Depth ∷ Kind ∷ Carbon ∷ Room ∷ Years ∷ Bounds ∷ Turn ∷ MonthLimit ∷ Temperature ∷ Water
-    ∷ Cover ∷ Additions ∷ Ceiling ∷ []
+    Length ∷ Form ∷ Rows ∷ Clay ∷ Depth ∷ Kind ∷ Carbon ∷ Room ∷ Years ∷ Bounds ∷ Turn ∷ MonthLimit
+    ∷ TableForm ∷ Temperature ∷ Water ∷ Source ∷ Cover ∷ Additions ∷ Ceiling ∷ []
 
 -- What is asked is part of an order: its refusals stand in the order one after another, some left
 -- out.
@@ -94,8 +99,8 @@ partOf (refusal ∷ order) (x ∷ asked) =
 
 -- ---- places
 
--- What is asked at a place: a line of a book, a month of a list or a spin-up counted from its
--- first, or 0 for a fault outside the months or in a single month call.
+-- What is asked at a place: a line of a book or a table, a month of a list or a spin-up counted
+-- from its first, or 0 for a fault outside these or in a single month call.
 pub record Placed : Type 0 where
   pub asked : Asked
   pub place : ℕ
@@ -128,7 +133,7 @@ numberAndPlace (refused refusal place) = record { number = refusalNumber refusal
 abbrev pub told : List Placed → NumberAndPlace
 told asked = numberAndPlace (found asked)
 
--- What a check promises: the first that applies, and document 01's number of it.
+-- What a check promises: the first that applies, and the papers' number of it.
 pub record Finds (asked : List Asked) (check : Check) : Type 0 where
   pub first : check ≡ firstOf asked
   pub number : checkNumber check ≡ told (at 0 asked) .number

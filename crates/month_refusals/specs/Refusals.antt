@@ -1,5 +1,5 @@
--- The refusals of a soil, a state and a month, in document 01's words and order. Each call takes
--- its part of the list.
+-- The refusals of a soil, a state and a month, in the papers' words and order. Each call takes its
+-- part of the list.
 use mathlib.Core.Bool.{Bool, not, _||_}
 use mathlib.Core.List.{List, [], _∷_, _++_}
 use Prim.Native.Nat.{ℕ, _+_, _*_}
@@ -25,6 +25,7 @@ use Rattle.month_refusals.specs.declared.Refusal.the-variants.{
   MonthLimit,
   Temperature,
   Water,
+  Source,
   Cover,
   Additions,
   Ceiling,
@@ -78,6 +79,10 @@ unfoldable pub waterOutside : Weather → Bool
 waterOutside w =
     outside (pos 0) (pos 20000) (w .rain) || outside (pos 0) (pos 20000) (w .evaporation)
 
+-- 19: the evaporation's source is a "fourth number other than 0 or 1".
+unfoldable pub sourceOutside : Weather → Bool
+sourceOutside w = outside (pos 0) (pos 1) (w .source)
+
 -- 15: cover is neither 0 nor 1.
 unfoldable pub coverOutside : Land → Bool
 coverOutside l = outside (pos 0) (pos 1) (l .cover)
@@ -111,9 +116,11 @@ stateAsked s = soilAsked (s .soil) ++ boundsAsked s
 unfoldable pub turnAsked : State → ℕ → List Asked
 turnAsked s number = (Turn if outOfTurn s number) ∷ []
 
--- 13 and 14: a month's weather, or a weather line.
+-- 13, 14 and 19: a month's weather, or a line of weather.
 unfoldable pub weatherAsked : Weather → List Asked
-weatherAsked w = (Temperature if temperatureOutside w) ∷ (Water if waterOutside w) ∷ []
+weatherAsked w =
+    (Temperature if temperatureOutside w) ∷ (Water if waterOutside w) ∷ (Source if sourceOutside w)
+    ∷ []
 
 -- 15 and 16: what the land is given.
 unfoldable pub landAsked : Land → List Asked
@@ -123,12 +130,12 @@ landAsked l = (Cover if coverOutside l) ∷ (Additions if additionsOutside l) �
 unfoldable pub carbonAsked : State → Land → List Asked
 carbonAsked s l = landAsked l ++ ((Ceiling if ceilingPassed s l) ∷ [])
 
--- 12 to 17: a month's entries, in a single month call and in a list.
+-- 12 to 17, with 19 after 14: a month's entries, in a single month call and in a list.
 unfoldable pub entriesAsked : State → Entries → List Asked
 entriesAsked s e =
     (MonthLimit if limitReached s) ∷ (weatherAsked (e .weather) ++ carbonAsked s (e .land))
 
--- 4 to 7, 10, 11 and 12 to 17: a single month call.
+-- 4 to 7, 10, 11, and 12 to 17 with 19 after 14: a single month call.
 unfoldable pub monthAsked : State → ℕ → Entries → List Asked
 monthAsked s number e = stateAsked s ++ (turnAsked s number ++ entriesAsked s e)
 

@@ -1,5 +1,5 @@
-// Document 01's refusals: one enum for all calls, their numbers, what each call asks in document
-// 01's order, and the checks of a soil and of a state's bounds. No sum wraps, whatever the numbers.
+// The papers' refusals: one enum for all calls, their numbers, what each call asks in the papers'
+// order, and the checks of a soil and of a state's bounds. No sum wraps, whatever the numbers.
 ghost use mathlib.Core.Path.{_≡_};
 ghost use lib.Dec.{ltb};
 ghost use Rattle.step_pools.specs.Pools.{total};
@@ -15,7 +15,7 @@ use number_units::Grams;
 use step_pools::total;
 use step_water::max_deficit;
 
-// Why something is refused. `refusalNumber` of specs/Asked.antt gives document 01's numbers.
+// Why something is refused. `refusalNumber` of specs/Asked.antt gives the papers' numbers.
 pub enum Refusal {
     Length,
     Form,
@@ -34,6 +34,8 @@ pub enum Refusal {
     Cover,
     Additions,
     Ceiling,
+    TableForm,
+    Source,
 }
 
 // What a check finds: nothing, or the first refusal that applies.
@@ -48,7 +50,7 @@ pub struct NumberAndPlace {
     pub place: u64,
 }
 
-// Document 01's number of a refusal.
+// The papers' number of a refusal.
 pub fn refusal_number(r: Refusal) -> u64
     ensures { λ n. ⌜ n ≡ refusalNumber r ⌝ }
 {
@@ -70,6 +72,8 @@ pub fn refusal_number(r: Refusal) -> u64
         Refusal::Cover => 15,
         Refusal::Additions => 16,
         Refusal::Ceiling => 17,
+        Refusal::TableForm => 18,
+        Refusal::Source => 19,
     }
 }
 

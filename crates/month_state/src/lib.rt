@@ -26,12 +26,14 @@ pub struct State {
     pub co2: Grams,
 }
 
-// A month's weather. Here and in the land's entries the numbers have a sign, so that one below 0 is
-// refused and not misread.
+// A month's weather. `source` is document 02's "fourth number", the kind of the evaporation: 0 for
+// open pan, 1 for potential evapotranspiration. Here and in the land's entries the numbers have a
+// sign, so that one below 0 is refused and not misread.
 pub struct Weather {
     pub temperature: i64,
     pub rain: i64,
     pub evaporation: i64,
+    pub source: i64,
 }
 
 // What the land is given in a month: its cover, plant carbon and manure.

@@ -85,7 +85,7 @@ module _ (s : State) (weather land : List ℤ) (allowed : ℕ) where
   pub spin-exactly : Exactly (spinAsked s weather land allowed) (spinFound (spinUp s weather land allowed .answer))
   spin-exactly = exactly spin-found
 
--- What it asks before its years is part of document 01's list, in its order.
+-- What it asks before its years is part of the papers' list, in its order.
 pub before-in-order :
     (s : State) (weather land : List ℤ) (allowed : ℕ) → partOf checkingOrder (beforeYears s weather land allowed) ≡ true
 unfolding partOf beforeYears twelveAsked soilAsked allowedAsked boundsAsked

@@ -1,5 +1,5 @@
 -- Spin-up of document 01, and what it asks: 3, 4 to 7, 9 and 10 with place 0, then month by month
--- 12 to 17.
+-- what a month's entries are asked.
 use mathlib.Core.Bool.{Bool, true, false, not, cond, _&&_, _||_}
 use mathlib.Core.List.{List, [], _∷_, _++_}
 use Prim.Native.Nat.{ℕ, zero, suc, _+_, _*_}
@@ -86,8 +86,8 @@ unfoldable pub later : ℕ → List Placed → List Placed
 later places [] = []
 later places (x ∷ rest) = record { asked = x .asked; place = places + x .place } ∷ later places rest
 
--- 12 to 17 of the months of so many years more, `before` years being run, up to the first year that
--- settles.
+-- What the entries of the months of so many years more are asked, `before` years being run, up to
+-- the first year that settles.
 unfoldable pub yearsAsked : ℕ → List ℤ → List ℤ → ℕ → State → List Placed
 yearsAsked zero weather land before s = []
 yearsAsked (suc left) weather land before s =
@@ -112,7 +112,7 @@ unfoldable pub spinUp : State → List ℤ → List ℤ → ℕ → SpinOutcome
 spinUp s weather land allowed =
     spinChecked (firstOf (beforeYears s weather land allowed)) s (years allowed weather land 0 s s)
 
--- What a spin-up's answer says is found, document 01's number and place of it, and the years run:
+-- What a spin-up's answer says is found, the papers' number and place of it, and the years run:
 -- those of a settled or an unsettled one, and none where it is refused.
 abbrev pub spinFound : SpinAnswer → Found
 spinFound (Settled years) = nothing

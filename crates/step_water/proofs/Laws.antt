@@ -9,10 +9,10 @@ use native.Mathlib.Omega.{arith}
 use native.Mathlib.Decide.{decLe}
 use borrow.Author.Tests.{le-ltb, lt-ltb}
 use lib.Dec.{lit<}
-use lib.IntN.{pos, _+ℤ_, _-ℤ_}
+use lib.IntN.{ℤ, pos, _+ℤ_, _-ℤ_}
 use mir.Syntax.{w64}
 use mir.Val.{SFits}
-use Rattle.step_water.specs.Water.{maxDeficit, bareLimit, drying, deficitCap, clamped, newDeficit, halvesUp, moistureFactor}
+use Rattle.step_water.specs.Water.{maxDeficit, bareLimit, tenthDries, drying, deficitCap, clamped, newDeficit, halvesUp, moistureFactor}
 use Rattle.step_water.proofs.Signed.{difference-fits, clamped-difference, add-difference}
 
 -- ---- M
@@ -60,31 +60,45 @@ bareLimit-exact clay depth = five-ninths depth (200000 + 1300 * clay - clay * cl
 
 -- ---- the deficit
 
+-- A tenth of a millimetre of evaporation dries at most what a tenth of rain wets, ..
+tenth-most : (potential : Bool) → tenthDries potential ≤ 207000
+tenth-most false = omega arith
+tenth-most true = omega arith
+
+-- .. so that the evaporation of a month stays small, of either source.
+pub evaporation-most : (potential : Bool) (evaporation : ℕ) → evaporation ≤ 20000 → tenthDries potential * evaporation ≤ 4140000000
+evaporation-most potential evaporation h = mul-le-mul (tenth-most potential) h
+
 -- The drying is a signed 64-bit number, for accepted rain and evaporation.
-pub drying-fits : (evaporation rain : ℕ) → evaporation ≤ 20000 → rain ≤ 20000 → SFits w64 (drying evaporation rain)
+pub drying-fits : (potential : Bool) (evaporation rain : ℕ) → evaporation ≤ 20000 → rain ≤ 20000
+    → SFits w64 (drying potential evaporation rain)
 unfolding drying
-drying-fits evaporation rain he hr = difference-fits (155250 * evaporation) (207000 * rain) (omega arith) (omega arith)
+drying-fits potential evaporation rain he hr =
+    difference-fits (tenthDries potential * evaporation) (207000 * rain)
+    (omega (arith, evaporation-most potential evaporation he)) (omega arith)
 
 -- A deficit plus the drying is one difference of two natural numbers.
-dried-is : (d evaporation rain : ℕ)
-    → pos d +ℤ drying evaporation rain ≡ pos (d + 155250 * evaporation) -ℤ pos (207000 * rain)
+dried-is : (d : ℕ) (potential : Bool) (evaporation rain : ℕ)
+    → pos d +ℤ drying potential evaporation rain ≡ pos (d + tenthDries potential * evaporation) -ℤ pos (207000 * rain)
 unfolding drying
-dried-is d evaporation rain = add-difference d (155250 * evaporation) (207000 * rain)
+dried-is d potential evaporation rain = add-difference d (tenthDries potential * evaporation) (207000 * rain)
 
 -- A deficit of at most the largest M plus the drying is a signed 64-bit number too.
-pub dried-fits : (d evaporation rain : ℕ) → d ≤ 560250000 → evaporation ≤ 20000 → rain ≤ 20000
-    → SFits w64 (pos d +ℤ drying evaporation rain)
-dried-fits d evaporation rain hd he hr =
-    rw (dried-is d evaporation rain)
-    (difference-fits (d + 155250 * evaporation) (207000 * rain) (omega arith) (omega arith))
+pub dried-fits : (d : ℕ) (potential : Bool) (evaporation rain : ℕ) → d ≤ 560250000 → evaporation ≤ 20000 → rain ≤ 20000
+    → SFits w64 (pos d +ℤ drying potential evaporation rain)
+dried-fits d potential evaporation rain hd he hr =
+    rw (dried-is d potential evaporation rain)
+    (difference-fits (d + tenthDries potential * evaporation) (207000 * rain)
+    (omega (arith, evaporation-most potential evaporation he)) (omega arith))
 
 -- The new deficit without signed numbers.
-pub newDeficit-is : (crop : Bool) (m d evaporation rain : ℕ)
-    → newDeficit crop m d evaporation rain ≡ min (d + 155250 * evaporation - 207000 * rain) (deficitCap crop m d)
+pub newDeficit-is : (crop : Bool) (m d : ℕ) (potential : Bool) (evaporation rain : ℕ)
+    → newDeficit crop m d potential evaporation rain
+    ≡ min (d + tenthDries potential * evaporation - 207000 * rain) (deficitCap crop m d)
 unfolding newDeficit
-newDeficit-is crop m d evaporation rain =
-    ap (clamped (deficitCap crop m d)) (dried-is d evaporation rain)
-    ∙ clamped-difference (deficitCap crop m d) (d + 155250 * evaporation) (207000 * rain)
+newDeficit-is crop m d potential evaporation rain =
+    ap (clamped (deficitCap crop m d)) (dried-is d potential evaporation rain)
+    ∙ clamped-difference (deficitCap crop m d) (d + tenthDries potential * evaporation) (207000 * rain)
 
 -- A cap is at most M where the deficit before the month was, under a crop and on bare soil.
 pub deficitCap-top : (crop : Bool) (m d : ℕ) → d ≤ m → deficitCap crop m d ≤ m
@@ -93,9 +107,24 @@ deficitCap-top true m d h = omega arith
 deficitCap-top false m d h = omega arith
 
 -- A deficit of at most M stays at most M.
-pub newDeficit-top : (crop : Bool) (m d evaporation rain : ℕ) → d ≤ m → newDeficit crop m d evaporation rain ≤ m
-newDeficit-top crop m d evaporation rain h =
+pub newDeficit-top : (crop : Bool) (m d : ℕ) (potential : Bool) (evaporation rain : ℕ) → d ≤ m
+    → newDeficit crop m d potential evaporation rain ≤ m
+newDeficit-top crop m d potential evaporation rain h =
     rw newDeficit-is (le-trans (min-le-right _ (deficitCap crop m d)) (deficitCap-top crop m d h))
+
+-- FOUR FOR THREE: 4 tenths of open pan dry as 3 tenths of potential evapotranspiration do, k times over, ..
+pub four-for-three : (k rain : ℕ) → drying false (4 * k) rain ≡ drying true (3 * k) rain
+unfolding drying
+four-for-three k rain =
+    let same : 155250 * (4 * k) ≡ 207000 * (3 * k) = omega arith in
+    ap (λ (parts : ℕ). pos parts -ℤ pos (207000 * rain)) same
+
+-- .. and leave the same deficit.
+pub deficit-four-for-three :
+    (crop : Bool) (m d k rain : ℕ) → newDeficit crop m d false (4 * k) rain ≡ newDeficit crop m d true (3 * k) rain
+unfolding newDeficit
+deficit-four-for-three crop m d k rain =
+    ap (λ (dried : ℤ). clamped (deficitCap crop m d) (pos d +ℤ dried)) (four-for-three k rain)
 
 -- Bare soil that is already as dry as its limit or drier is never wetted by the cap.
 pub dry-bare-cap : (m d : ℕ) → bareLimit m ≤ d → deficitCap false m d ≡ d

@@ -14,10 +14,17 @@ maxDeficit clay depth = 9 * depth * (200000 + 1300 * clay - clay * clay)
 unfoldable pub bareLimit : ℕ → ℕ
 bareLimit m = 5 * m / 9
 
--- The month's drying is a signed number: 155,250 × evaporation - 207,000 × rain. A tenth of a
--- millimetre of rain is 207,000 parts; of open-pan evaporation 0.75 of that, 155,250, counts.
-unfoldable pub drying : ℕ → ℕ → ℤ
-drying evaporation rain = pos (155250 * evaporation) -ℤ pos (207000 * rain)
+-- What a tenth of a millimetre of evaporation dries, in parts, by its source. A tenth of rain is
+-- 207,000 parts. Of open-pan evaporation (false) 0.75 of that counts, 155,250; of potential
+-- evapotranspiration (true) all of it, "without the 0.75" (change 2026-01).
+abbrev pub tenthDries : Bool → ℕ
+tenthDries false = 155250
+tenthDries true = 207000
+
+-- The month's drying is a signed number: 155,250 × evaporation - 207,000 × rain, or with the other
+-- source's parts in the place of 155,250.
+unfoldable pub drying : Bool → ℕ → ℕ → ℤ
+drying potential evaporation rain = pos (tenthDries potential * evaporation) -ℤ pos (207000 * rain)
 
 -- The cap: M under a crop (true); on bare soil (false) the larger of the deficit d before the month
 -- and the bare limit.
@@ -32,9 +39,9 @@ clamped cap (negsuc n) = 0
 
 -- The new deficit: the deficit d before the month plus the drying, raised to 0 or lowered to the
 -- cap.
-unfoldable pub newDeficit : Bool → ℕ → ℕ → ℕ → ℕ → ℕ
-newDeficit crop m d evaporation rain =
-    clamped (deficitCap crop m d) (pos d +ℤ drying evaporation rain)
+unfoldable pub newDeficit : Bool → ℕ → ℕ → Bool → ℕ → ℕ → ℕ
+newDeficit crop m d potential evaporation rain =
+    clamped (deficitCap crop m d) (pos d +ℤ drying potential evaporation rain)
 
 -- n / d rounded to the nearest whole number, halves up.
 unfoldable pub halvesUp : ℕ → ℕ → ℕ

@@ -3,8 +3,9 @@
 // the largest M, at clay 650 and depth 100.
 ghost use mathlib.Core.Path.{_≡_};
 ghost use Prim.Native.Nat.{_≤_, _<_};
-ghost use Rattle.step_water.specs.Water.{maxDeficit, bareLimit, drying, deficitCap, clamped};
-ghost use Rattle.step_water.specs.Water.{newDeficit, halvesUp, moistureFactor};
+ghost use Rattle.step_water.specs.Water.{maxDeficit, bareLimit, tenthDries, drying};
+ghost use Rattle.step_water.specs.Water.{deficitCap, clamped, newDeficit};
+ghost use Rattle.step_water.specs.Water.{halvesUp, moistureFactor};
 use number_units::Parts;
 use number_units::TenThousandths;
 
@@ -24,12 +25,20 @@ fn bare_limit(m: Parts) -> Parts
     Parts(5 * m.0 / 9)
 }
 
-// The month's drying: below 0 where the rain outweighs the evaporation.
-fn drying(evaporation: u64, rain: u64) -> i64
-    requires { ⌜ (evaporation ≤ 20000) × (rain ≤ 20000) ⌝ }
-    ensures { λ r. ⌜ r ≡ drying evaporation rain ⌝ }
+// What a tenth of a millimetre dries: of potential evapotranspiration, or of open pan.
+fn tenth_dries(potential: bool) -> u64
+    ensures { λ r. ⌜ r ≡ tenthDries potential ⌝ }
 {
-    (155250 * evaporation) as i64 - (207000 * rain) as i64
+    if potential { 207000 } else { 155250 }
+}
+
+// The month's drying: below 0 where the rain outweighs the evaporation.
+fn drying(potential: bool, evaporation: u64, rain: u64) -> i64
+    requires { ⌜ (evaporation ≤ 20000) × (rain ≤ 20000) ⌝ }
+    ensures { λ r. ⌜ r ≡ drying potential evaporation rain ⌝ }
+{
+    let tenth = tenth_dries(potential);
+    (tenth * evaporation) as i64 - (207000 * rain) as i64
 }
 
 // The cap on the deficit after the month, d being the deficit before it.
@@ -56,13 +65,20 @@ fn clamp(cap: u64, z: i64) -> u64
 }
 
 // The deficit after the month, d being the deficit before it.
-pub fn new_deficit(crop: bool, m: Parts, d: Parts, evaporation: u64, rain: u64) -> Parts
+pub fn new_deficit(
+    crop: bool,
+    m: Parts,
+    d: Parts,
+    potential: bool,
+    evaporation: u64,
+    rain: u64,
+) -> Parts
     requires { ⌜ (m .0 ≤ 560250000) × (d .0 ≤ 560250000)
         × (evaporation ≤ 20000) × (rain ≤ 20000) ⌝ }
-    ensures { λ r. ⌜ r .0 ≡ newDeficit crop (m .0) (d .0) evaporation rain ⌝ }
+    ensures { λ r. ⌜ r .0 ≡ newDeficit crop (m .0) (d .0) potential evaporation rain ⌝ }
 {
     let cap = deficit_cap(crop, m, d);
-    let dried = d.0 as i64 + drying(evaporation, rain);
+    let dried = d.0 as i64 + drying(potential, evaporation, rain);
     Parts(clamp(cap.0, dried))
 }
 

@@ -3,18 +3,21 @@
 // everywhere before it.
 ghost use Prim.Native.Nat.{_<_};
 ghost use lib.ListN.{length};
-use super::write::line;
 use library_calls::rothc_list;
 use library_calls::rothc_month;
 use library_calls::rothc_spin_up;
 use library_calls::rothc_start;
 use library_calls::rothc_survival;
+use library_calls::rothc_table;
 use list_rows::ENTRIES_WIDTH;
 use list_rows::LAND_WIDTH;
 use list_rows::ROW_WIDTH;
 use list_rows::WEATHER_WIDTH;
 use month_layouts::SOIL_WIDTH;
 use month_layouts::STATE_WIDTH;
+use test_lines::line;
+use test_lines::signed_line;
+use test_numbers::after_bytes;
 use test_numbers::line_end;
 use test_numbers::read_list;
 use test_numbers::read_number;
@@ -125,6 +128,44 @@ fn survival(text: &[u8], at: usize) -> usize {
     next
 }
 
+// T: a table.
+fn table(bytes: &[u8], weather: &mut [i64]) {
+    let mut rows = 7u64;
+    let mut place = 7u64;
+    let number = rothc_table(bytes, weather, &mut rows, &mut place);
+    signed_line(&[number, rows, place], weather);
+}
+
+// The same with an output of so many numbers. False where that is more than there is memory for.
+fn sized_table(bytes: &[u8], o: u64) -> bool {
+    if 4_900 < o {
+        return false;
+    }
+    let n = o as usize;
+    let mut weather = [7i64; 4_900];
+    table(bytes, &mut weather[..n]);
+    true
+}
+
+// The output's length, the table's, and on the lines after this one the table itself and byte 10.
+fn framed_table(text: &[u8], at: usize) -> usize {
+    let room = read_number(text, at);
+    let size = read_number(text, room.next);
+    let from = line_end(text, size.next);
+    if from == 0 {
+        return 0;
+    }
+    let end = after_bytes(text, from, size.value);
+    let next = line_end(text, end);
+    if next == 0 {
+        return 0;
+    }
+    if sized_table(&text[from..end], room.value) {
+        return next;
+    }
+    0
+}
+
 // The call of the line at a place.
 pub fn call(text: &[u8], at: usize) -> usize
     requires { ⌜ at < length (now text) ⌝ }
@@ -135,6 +176,7 @@ pub fn call(text: &[u8], at: usize) -> usize
         77 => month(text, at + 1),
         76 | 83 => series(text, at + 1, letter),
         68 => survival(text, at + 1),
+        84 => framed_table(text, at + 1),
         _ => 0,
     }
 }

@@ -2,9 +2,9 @@
 // and writes what each returns and leaves in lent memory. The calls, `stdin`, and what must be
 // written, `stdout`, are made by the reference and not by this program.
 mod call;
-mod write;
 
 use libc::STDIN_FILENO;
+use test_lines::fault;
 
 // The calls of a text in turn. One that departs from the form ends the run.
 fn calls(text: &[u8]) {
@@ -12,7 +12,7 @@ fn calls(text: &[u8]) {
     while at < text.len() {
         let next = call::call(text, at);
         if next <= at {
-            write::fault();
+            fault();
             return;
         }
         at = next;
@@ -24,7 +24,7 @@ fn calls(text: &[u8]) {
 fn read_calls(input: &mut [u8]) {
     let n = io::read_full(STDIN_FILENO, input);
     if n == input.len() {
-        write::fault();
+        fault();
         return;
     }
     calls(&input[..n]);

@@ -12,7 +12,7 @@ part-length numbers n h = sym (length-take-le n numbers h)
 pub filled-length : (k a : ℕ) → k ≡ length (replicate k a)
 filled-length k a = sym (length-replicate k a)
 
-pub filled-part : (k n a : ℕ) → n ≤ k → n ≡ length (take n (replicate k a))
+pub filled-part : {A : Type 0} (k n : ℕ) (a : A) → n ≤ k → n ≡ length (take n (replicate k a))
 filled-part k n a h = part-length (replicate k a) n (rw length-replicate h)
 
 module _ {A : Type 0} (numbers front : List A) (n : ℕ) (h : n ≤ length numbers) (same : length front ≡ length (take n numbers)) where

@@ -193,8 +193,32 @@ pub fn read_list(text: &[u8], at: usize, numbers: &mut [i64]) -> Count
     }
 }
 
+// How far a number below 0 is from 0; another number as it is.
+pub fn distance(z: i64) -> u64 {
+    if z < 0 {
+        return (-1 - z) as u64 + 1;
+    }
+    z as u64
+}
+
+// The place after so many bytes, or where the text has fewer, after its last.
+pub fn after_bytes(text: &[u8], from: usize, n: u64) -> usize
+    ensures { λ r. ⌜ (from ≤ length (now (text .entry)) → from ≤ r)
+        × (r ≤ length (now (text .entry))) ⌝ }
+{
+    if text.len() < from {
+        return text.len();
+    }
+    if text.len() - from < n as usize {
+        return text.len();
+    }
+    from + n as usize
+}
+
 // The place of the next line, or 0 where the line doesn't end at the place.
-pub fn line_end(text: &[u8], at: usize) -> usize {
+pub fn line_end(text: &[u8], at: usize) -> usize
+    ensures { λ r. ⌜ r ≤ length (now (text .entry)) ⌝ }
+{
     if text.len() <= at {
         return 0;
     }

@@ -8,7 +8,7 @@ use reference::exponential::{
 use reference::fixed::book_fixed;
 use reference::model::{
     factors, list, moisture_factor, month, split_manure, split_plant, Entries, Nearest, Soil,
-    State, Survival, RATES,
+    State, Survival, EVAPOTRANSPIRATION, OPEN_PAN, RATES,
 };
 use reference::recurrence::{
     carbon_closes, distance_every_q, distance_interval, q_highest, q_lowest, run_calls, Decision,
@@ -58,6 +58,7 @@ fn known_figures() {
         temperature: 34,
         rain: 740,
         evaporation: 80,
+        source: OPEN_PAN,
         cover: 0,
         plant: 0,
         manure: 0,
@@ -85,7 +86,7 @@ fn rothamsted_deficits() {
     let mut weather = Vec::new();
     let mut land = Vec::new();
     for (rain, evaporation, _) in table {
-        weather.extend([93, rain * 10, evaporation * 10]);
+        weather.extend([93, rain * 10, evaporation * 10, OPEN_PAN]);
         land.extend([1, 0, 0]);
     }
     let mut output = [0; 84];
@@ -146,6 +147,7 @@ fn ceiling() {
         temperature: 34,
         rain: 740,
         evaporation: 80,
+        source: OPEN_PAN,
         cover: 0,
         plant: 0,
         manure: 0,
@@ -207,6 +209,7 @@ fn demand_three() {
                 temperature: draw.between(-80, 250),
                 rain: draw.between(0, 1200),
                 evaporation: draw.between(0, 1500),
+                source: draw.between(OPEN_PAN, EVAPOTRANSPIRATION),
                 cover: draw.between(0, 1),
                 plant: draw.between(0, 1_000_000),
                 manure: draw.between(0, 300_000),

@@ -47,6 +47,14 @@ extern "C" {
         out_len: usize,
         length: *mut u64,
     ) -> u64;
+    fn rothc_table(
+        table: *const u8,
+        table_len: usize,
+        weather: *mut i64,
+        weather_len: usize,
+        rows: *mut u64,
+        place: *mut u64,
+    ) -> u64;
 }
 
 /// The C library. Each slice is lent with its own length, and none overlap: that is all the
@@ -130,6 +138,19 @@ impl Program for Library {
         }
     }
 
+    fn table(&mut self, table: &[u8], weather: &mut [i64], rows: &mut u64, place: &mut u64) -> u64 {
+        unsafe {
+            rothc_table(
+                table.as_ptr(),
+                table.len(),
+                weather.as_mut_ptr(),
+                weather.len(),
+                rows,
+                place,
+            )
+        }
+    }
+
     fn survival(&mut self, n: u64, pool: u64) -> u64 {
         unsafe { rothc_survival(n, pool) }
     }
@@ -139,15 +160,23 @@ impl Program for Library {
 fn examples() -> std::io::Result<Vec<(String, Vec<u8>, Vec<u8>)>> {
     let folder = Path::new(env!("CARGO_MANIFEST_DIR")).join("../examples");
     let mut found = Vec::new();
-    for part in [folder.clone(), folder.join("refused")] {
+    for part in [folder.clone(), folder.join("refused"), folder.join("tables")] {
         let mut books: Vec<PathBuf> = std::fs::read_dir(part)?
             .map(|entry| Ok(entry?.path()))
             .collect::<std::io::Result<_>>()?;
         books.retain(|path| path.extension().is_some_and(|word| word == "book"));
         books.sort();
         for path in books {
-            let name = path.file_stem().unwrap_or_default().to_string_lossy().into_owned();
-            found.push((name, std::fs::read(&path)?, std::fs::read(path.with_extension("out"))?));
+            let name = path
+                .file_stem()
+                .unwrap_or_default()
+                .to_string_lossy()
+                .into_owned();
+            found.push((
+                name,
+                std::fs::read(&path)?,
+                std::fs::read(path.with_extension("out"))?,
+            ));
         }
     }
     Ok(found)
@@ -170,6 +199,8 @@ fn main() -> ExitCode {
         lists: counts.lists * times,
         spin_ups: counts.spin_ups * times,
         books: counts.books * times,
+        tables: counts.tables * times,
+        pairs: counts.pairs * times,
         ..counts
     };
     let start = Instant::now();

@@ -1,5 +1,6 @@
-//! Writes the test lines over numbers: `input` (a call a line), `output` (its answer), `names`
-//! (a line for each group: how many lines it has and what they show).
+//! Writes the test lines over numbers: `input` (a call a line, a table's bytes after its line),
+//! `output` (its answer), `names` (a line for each group: how many lines it has and what they
+//! show).
 
 use reference::call_lines::groups;
 use std::io::{self, BufWriter, Write};
@@ -20,10 +21,9 @@ fn main() -> ExitCode {
             }
             for line in &group.lines {
                 if mode == "input" {
-                    writeln!(out, "{}", line.call.line())?;
+                    out.write_all(&line.call.input())?;
                 } else {
-                    let words: Vec<String> = line.answer.iter().map(u64::to_string).collect();
-                    writeln!(out, "{}", words.join(" "))?;
+                    writeln!(out, "{}", line.call.answer_line(&line.answer))?;
                 }
             }
         }

@@ -33,7 +33,7 @@ loop-less c = omega arith
 
 loop-again : tie.Need-loop-again Inv-loop μ-loop
 loop-again c =
-    let l = c .before .before .loop in copied _ _ _ (l .out) (l .i) (l .inv) (c .before .loop-test .taken)
+    let l = c .before .before .loop in copied _ _ _ (l .out) (l .i) 0 (l .inv) (c .before .loop-test .taken)
 
 add-result : tie.Need-add-result Inv-loop μ-loop
 add-result c = omega arith

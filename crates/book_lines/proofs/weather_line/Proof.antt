@@ -1,6 +1,7 @@
 -- `book_lines::weather_line` meets its contract: its values are read in the definition's order, and the first that is missing makes the line
 -- malformed. A temperature that was read is below 10^10, so that it fits 64 bits with a sign. Assumes nothing.
 use mathlib.Core.Path.{_≡_, sym, _∙_}
+use native.Mathlib.Omega.{arith}
 use borrow.Author.Needs.{needs}
 use Rattle.book_values.specs.declared.Signed.{Signed}
 use Rattle.book_values.specs.Values.{readSigned}
@@ -39,7 +40,7 @@ returns-4 : tie.Need-returns-4
 returns-4 c =
     let end = c .before .before .before in
     let first = end .before .before .before .before .before .before in
-    rw (signed-kept (first .before .temperature .given .0 .0) (signed-read _ _ _ _ (read first) .below))
+    rw (signed-kept (first .before .temperature .given .0 .0) (omega (arith, signed-read _ _ _ _ (read first) .below)))
     (finished (rain (end .before .before)) (end .ended .ensures) (end .before .spaced-value2 .ensures) (c .before .evaporation .given .1))
 
 pub weather-line-spec : {M : Type 1} → statement M

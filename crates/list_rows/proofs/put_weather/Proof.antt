@@ -1,4 +1,4 @@
--- `list_rows::put_weather` meets its contract: three stores, one after another, within the memory.
+-- `list_rows::put_weather` meets its contract: four stores, one after another, within the memory.
 -- Assumes nothing.
 use mathlib.Core.Path.{_∙_, ap}
 use mathlib.Core.List.{List, [], _∷_}
@@ -40,14 +40,23 @@ mul-evaporation c = omega arith
 slice-set-from-evaporation : tie.Need-slice-set-from-evaporation
 slice-set-from-evaporation c = simp length-set (omega arith)
 
+add-source : tie.Need-add-source
+add-source c = omega arith
+
+mul-source : tie.Need-mul-source
+mul-source c = omega arith
+
+slice-set-from-source : tie.Need-slice-set-from-source
+slice-set-from-source c = simp length-set (omega arith)
+
 same-length : tie.Need-same-length
 same-length c = search needs
 
 returns : tie.Need-returns
 unfolding weatherWritten weatherNumbers
 returns c =
-    let start = c .before .before .before in
-    let told = c .struct-told3 .given in
+    let start = c .before .before .before .before in
+    let told = c .struct-told4 .given in
     let w = start .args .w in
     let numbers = start .args .numbers .now in
     let place = weatherWidth * start .args .i in
@@ -56,6 +65,7 @@ returns c =
     (λ k. read (w .temperature) (told .0 .1) k
     ∷ read (w .rain) (told .1 .0 .1) k
     ∷ read (w .evaporation) (told .1 .1 .0 .1) k
+    ∷ read (w .source) (told .1 .1 .1 .0 .1) k
     ∷ [])
     ∙ in-turn numbers place (weatherNumbers w)
 
@@ -72,5 +82,8 @@ put-weather-spec =
     add-evaporation
     mul-evaporation
     slice-set-from-evaporation
+    add-source
+    mul-source
+    slice-set-from-source
     same-length
     returns)

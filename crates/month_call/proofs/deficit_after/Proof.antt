@@ -6,7 +6,7 @@ use lib.IntN.{natAbs}
 use Rattle.month_call.specs.Month.{deficitAfter, nextDeficit}
 use Rattle.month_refusals.proofs.Accepted.{Sound, WeatherReady, sound-state, ready, entries-parts, natural-most}
 use Rattle.month_refusals.specs.declared.Check.the-variants.{Pass}
-use Rattle.month_refusals.specs.Refusals.{landCheck}
+use Rattle.month_refusals.specs.Refusals.{weatherCheck, landCheck}
 use Rattle.month_state.proofs.Signed.{read, natural-read}
 use Rattle.month_call.proofs.Steps.{deficit-range}
 use Rattle.month_call.proofs.deficit_after.Statement.{statement}
@@ -18,12 +18,15 @@ sound c = sound-state (c .args .s) (c .pre .state)
 weather : (c : tie.Start) → WeatherReady (c .args .e .weather)
 weather c = ready (c .args .s) (c .args .e) (c .pre .entries) .weather
 
+weather-passes : (c : tie.Start) → weatherCheck (c .args .e .weather) ≡ Pass
+weather-passes c = entries-parts (c .args .s) (c .args .e) (c .pre .entries) .weather
+
 land-passes : (c : tie.Start) → landCheck (c .args .e .land) ≡ Pass
 land-passes c = entries-parts (c .args .s) (c .args .e) (c .pre .entries) .land
 
 -- the function's entry, from the first signed entry on
-abbrev start : tie.After-max-deficit → tie.Start
-start c = c .before .before .before .before .before .before
+abbrev start : tie.After-is-potential → tie.Start
+start c = c .before .before .before .before .before .before .before
 
 under-crop-requires : tie.Need-under-crop-requires
 under-crop-requires c κs = land-passes (c .before .before .before .before)
@@ -32,6 +35,9 @@ max-deficit-requires : tie.Need-max-deficit-requires
 max-deficit-requires c κs =
     let soil = sound (c .before .before .before .before .before) .soil in
     (soil .clay, soil .deepest)
+
+is-potential-requires : tie.Need-is-potential-requires
+is-potential-requires c κs = weather-passes (c .before .before .before .before .before .before)
 
 natural-requires : tie.Need-natural-requires
 natural-requires c κs =
@@ -70,7 +76,13 @@ unfolding nextDeficit deficitAfter
 returns c =
     let b = c .before .before .before .before .before in
     c .new-deficit .ensures
-    ∙ rw (b .before .under-crop .ensures, b .max-deficit .ensures, evaporation-is (c .before .before .before), rain-is (c .before))
+    ∙ rw (
+      b .before .before .under-crop .ensures,
+      b .before .max-deficit .ensures,
+      b .is-potential .ensures,
+      evaporation-is (c .before .before .before),
+      rain-is (c .before),
+    )
 
 pub deficit-after-spec : {M : Type 1} → statement M
 deficit-after-spec =
@@ -78,6 +90,7 @@ deficit-after-spec =
     (tie.spec
     under-crop-requires
     max-deficit-requires
+    is-potential-requires
     natural-requires
     natural-requires-2
     new-deficit-requires

@@ -1,4 +1,4 @@
--- `month_checks::check_entries` meets its contract: 12, 13 and 14, then 15 to 17.
+-- `month_checks::check_entries` meets its contract: 12, the weather, then 15 to 17.
 -- Assumes nothing.
 use borrow.Author.Needs.{needs}
 use mathlib.Core.Path.{_≡_, sym, _∙_}

@@ -25,13 +25,13 @@ drying-requires : tie.Need-drying-requires
 drying-requires c κs = search needs
 
 drying-result-fits : (c : tie.After-drying) → SFits w64 (c .drying .result)
-drying-result-fits c = rw (c .drying .ensures) (drying-fits _ _ (omega arith) (omega arith))
+drying-result-fits c = rw (c .drying .ensures) (drying-fits _ _ _ (omega arith) (omega arith))
 
 -- the sum that is read from the bits is that of the deficit and the drying
 add-dried : tie.Need-add-dried
 add-dried c =
     rw (read-sum (cast-dried (c .before)) (drying-result-fits c), c .drying .ensures)
-    (dried-fits _ _ _ (omega arith) (omega arith) (omega arith))
+    (dried-fits _ _ _ _ (omega arith) (omega arith) (omega arith))
 
 clamp-requires : tie.Need-clamp-requires
 clamp-requires c κs = search needs
@@ -43,7 +43,7 @@ returns c =
     let read = read-sum (cast-dried (c .before .before)) (drying-result-fits (c .before)) in
     c .clamp .ensures
     ∙ rw (toZ-ofZ (add-dried (c .before)), read, c .before .drying .ensures)
-    (ap (λ (cap : ℕ). clamped cap (pos (a .d .0) +ℤ drying (a .evaporation) (a .rain)))
+    (ap (λ (cap : ℕ). clamped cap (pos (a .d .0) +ℤ drying (a .potential) (a .evaporation) (a .rain)))
     (c .before .before .before .deficit-cap .ensures))
 
 pub new-deficit-spec : {M : Type 1} → statement M

@@ -1,0 +1,4 @@
+pub mod Rows
+pub mod RoundTrip
+pub mod OnlySo
+pub mod Frost

@@ -1,0 +1,4 @@
+pub mod Tenths
+pub mod Counting
+pub mod Laws
+pub mod Examples
