@@ -1,8 +1,8 @@
 -- The rows of a text's lines, one after another, up to the first that is at fault: those of the
 -- book's WEATHER and LAND sections, and of a table. A byte is a number, a text a list of bytes, and
 -- `place` where a line begins.
-use mathlib.Core.List.{List, [], _++_}
 use mathlib.Core.Path.{_≡_}
+use mathlib.Core.List.{List, [], _++_}
 use Prim.Native.Nat.{ℕ, zero, suc, _<_, _^_}
 use lib.IntN.{ℤ, pos}
 use lib.ListN.{length, drop}
