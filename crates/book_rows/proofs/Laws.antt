@@ -15,7 +15,6 @@ use Rattle.list_rows.specs.Rows.{weatherWidth, landWidth}
 use Rattle.month_layouts.proofs.Layouts.{put-taken, put-dropped}
 use Rattle.list_rows.proofs.Layouts.{weather-of-length, land-of-length}
 use Rattle.month_refusals.specs.declared.Refusal.{Refusal}
-use Rattle.book_lines.specs.declared.WeatherLine.{WeatherLine}
 use Rattle.book_lines.specs.declared.LandLine.{LandLine}
 use Rattle.book_lines.specs.Lines.{weatherLine, landLine}
 use Rattle.book_lines.proofs.Laws.{weather-read, land-read}

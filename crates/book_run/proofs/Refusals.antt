@@ -21,7 +21,7 @@ use Rattle.month_refusals.specs.declared.Check.{Check}
 use Rattle.month_refusals.specs.declared.Check.the-variants.{Pass, Refuse}
 use Rattle.month_refusals.specs.declared.Refusal.{Refusal}
 use Rattle.month_refusals.specs.declared.Refusal.the-variants.{Length, Form, Rows}
-use Rattle.month_refusals.specs.Asked.{_if_, firstOf, Placed, at, Found, nothing, refused, found, told, numberAndPlace, Exactly}
+use Rattle.month_refusals.specs.Asked.{_if_, firstOf, Placed, at, Found, refused, found, told, numberAndPlace, Exactly}
 use Rattle.month_refusals.specs.Refusals.{soilAsked, soilCheck, entriesAsked, entriesCheck}
 use Rattle.month_refusals.proofs.First.{foundLater, orElse, foundAt, found-append, found-then, exactly}
 use Rattle.month_call.specs.Month.{listMonth}

@@ -11,7 +11,6 @@ use mir.Facts.{toZ-pos, toZ-ofZ}
 use Rattle.month_state.specs.declared.Weather.{Weather}
 use Rattle.month_state.proofs.Signed.{read}
 use Rattle.month_refusals.specs.Refusals.{weatherCheck}
-use Rattle.book_lines.specs.declared.WeatherLine.{WeatherLine}
 use Rattle.book_rows.specs.declared.WeatherRow.the-variants.{Row}
 use Rattle.book_rows.specs.Rows.{weatherFor}
 use Rattle.book_rows.proofs.as_weather.Statement.{statement}

@@ -2,15 +2,11 @@
 -- rows, and the output begins with them; else it stays.
 -- Assumes nothing.
 use mathlib.Core.Path.{_≡_, refl, sym, _∙_, ap}
-use mathlib.Core.List.{List, _++_}
-use Prim.Native.Nat.{_*_, _≤_}
+use Prim.Native.Nat.{_*_}
 use native.Mathlib.Omega.{arith}
 use borrow.Author.Needs.{needs}
-use lib.ListN.{length, take, drop, length-append}
-use lib.Seq.{length-take-le}
+use lib.ListN.{length, take, length-append}
 use Rattle.list_rows.specs.Rows.{weatherWidth}
-use Rattle.book_digits.specs.Digits.{overwritten}
-use Rattle.book_rows.specs.declared.RowsEnd.the-variants.{Next}
 use Rattle.book_rows.proofs.Laws.{front}
 use Rattle.table_import.specs.Table.{readTable}
 use Rattle.table_import.proofs.Laws.{Roomy, roomy, table-full}
@@ -23,7 +19,7 @@ passed c = roomy _ _ (c .pre .0)
 read-lines-requires : tie.Need-read-lines-requires
 read-lines-requires c κs =
     let start = c .before .before in
-    (omega (arith, passed start .most, start .pre .1), passed start .most)
+    (omega (arith, passed start, start .pre .1), passed start .most)
 
 enum-told : tie.Need-enum-told
 enum-told c = search needs

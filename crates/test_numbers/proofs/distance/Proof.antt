@@ -9,7 +9,7 @@ use lib.Dec.{T}
 use lib.IntN.{ℤ, pos, negsuc, natAbs, _-ℤ_}
 use lib.Signed.{mag, ltZ, nonNeg}
 use mir.Syntax.{w64}
-use mir.Val.{SFits, Fits, toZ, ofZ}
+use mir.Val.{Fits, toZ, ofZ}
 use mir.Facts.{toZ-ofZ}
 use Rattle.test_numbers.proofs.distance.Statement.{statement}
 use Rattle.test_numbers.proofs.distance.Tie as tie
