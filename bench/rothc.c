@@ -59,7 +59,8 @@ static uint64_t proved_spin_up(uint64_t years) {
   return state[ROTHC_STATE_MONTHS];
 }
 
-// A year of single month calls, and the same in floating point.
+// A year of single month calls, which keep the state before each month. (Floating point's side of it
+// keeps nothing.)
 static uint64_t proved_months(uint64_t *row) {
   uint64_t state[ROTHC_STATE];
   rothc_start(hoosfield_soil, ROTHC_SOIL, state, ROTHC_STATE);
@@ -70,6 +71,42 @@ static uint64_t proved_months(uint64_t *row) {
     rothc_month(state, ROTHC_STATE, m + 1, entries, ROTHC_ENTRIES, row, ROTHC_ROW);
   }
   return state[ROTHC_STATE_MONTHS];
+}
+
+// A field with the states before its latest 24 months, in ordinary C: a month that keeps the state
+// before it, and the latest one taken back.
+typedef struct { field now, kept[ROTHC_KEPT_LIMIT]; unsigned months, count; } kept_field;
+
+static void keep_month(kept_field *f, const int64_t *w, const int64_t *l) {
+  f->kept[f->months++ % ROTHC_KEPT_LIMIT] = f->now;
+  if (f->count < ROTHC_KEPT_LIMIT) f->count++;
+  f->now = month(f->now, w, l);
+}
+
+static int take_back(kept_field *f) {
+  if (f->count == 0) return ROTHC_NONE_KEPT;
+  f->count--;
+  f->now = f->kept[--f->months % ROTHC_KEPT_LIMIT];
+  return 0;
+}
+
+// So many fields, each with 24 months booked.
+enum { FIELDS = 100 };
+static uint64_t proved_fields[FIELDS][ROTHC_STATE];
+static kept_field plain_fields[FIELDS];
+
+static void book_fields(uint64_t *row) {
+  for (int i = 0; i < FIELDS; i++) {
+    rothc_start(hoosfield_soil, ROTHC_SOIL, proved_fields[i], ROTHC_STATE);
+    plain_fields[i] = (kept_field){.now = hoosfield};
+    for (int m = 0; m < ROTHC_KEPT_LIMIT; m++) {
+      int64_t entries[ROTHC_ENTRIES];
+      memcpy(entries, rothamsted + ROTHC_WEATHER * (m % 12), ROTHC_WEATHER * sizeof *entries);
+      memcpy(entries + ROTHC_WEATHER, crops + ROTHC_LAND * (m % 12), ROTHC_LAND * sizeof *entries);
+      rothc_month(proved_fields[i], ROTHC_STATE, m + 1, entries, ROTHC_ENTRIES, row, ROTHC_ROW);
+      keep_month(&plain_fields[i], rothamsted + ROTHC_WEATHER * (m % 12), crops + ROTHC_LAND * (m % 12));
+    }
+  }
 }
 
 static double total(field f) { return f.dpm + f.rpm + f.bio + f.hum + f.iom; }
@@ -182,6 +219,24 @@ int main(void) {
     proved[run] = (middle - start) / 12000 * 1e9, plain[run] = (now() - middle) / 12000 * 1e9;
   }
   report("a single month call", "ns");
+  // 24 months taken back, on a hundred fields
+  for (int run = 0; run < RUNS; run++) {
+    book_fields(out);
+    double start = now();
+    for (int i = 0; i < FIELDS; i++)
+      for (int m = 0; m < ROTHC_KEPT_LIMIT; m++) sink += rothc_take_back(proved_fields[i], ROTHC_STATE);
+    double middle = now();
+    for (int i = 0; i < FIELDS; i++)
+      for (int m = 0; m < ROTHC_KEPT_LIMIT; m++) sink += take_back(&plain_fields[i]);
+    plain[run] = (now() - middle) / (FIELDS * ROTHC_KEPT_LIMIT) * 1e9;
+    proved[run] = (middle - start) / (FIELDS * ROTHC_KEPT_LIMIT) * 1e9;
+    for (int i = 0; i < FIELDS; i++) {
+      if (proved_fields[i][ROTHC_STATE_MONTHS] || rothc_take_back(proved_fields[i], ROTHC_STATE) != ROTHC_NONE_KEPT)
+        return printf("a field was not taken back\n"), 2;
+      floats += total(plain_fields[i].now);
+    }
+  }
+  report("a month taken back", "ns");
   // lists of 1,200 months, once, ten and a hundred times
   for (int times = 1; times <= 100; times *= 10) {
     for (int run = 0; run < RUNS; run++) {

@@ -13,11 +13,12 @@
  * does: the number after it says which.
  *
  * Memory. The caller lends all memory, as a pointer and a length counted in elements (not in
- * bytes); nothing is kept, allocated or shared between calls, so that calls on different memory can
- * run at the same time. Each pointer points to as many elements as its length says, also where that
- * is 0, and is not null. Memory that a call may write (a pointer without const) overlaps no other
- * memory that the same call is lent. This the caller has to see to: everything else is checked, and
- * refused with a number.
+ * bytes); the library keeps, allocates and shares nothing between calls, so that calls on different
+ * memory can run at the same time. (The months that can be taken back stand in the lent state.)
+ * Each pointer points to as many elements as its length says, also where that is 0, and is not
+ * null. Memory that a call may write (a pointer without const) overlaps no other memory that the
+ * same call is lent. This the caller has to see to: everything else is checked, and refused with a
+ * number, except the kept states (see "A state").
  *
  * Answers. Each call but rothc_survival returns 0 where it did what it was asked, one of the
  * refusals below where it did not, or ROTHC_SHAPE where memory of a fixed layout (soil, state,
@@ -53,8 +54,8 @@ enum {
   ROTHC_ROOM = 8,          /* the output is too short */
   ROTHC_YEARS = 9,         /* spin-up years are outside 1 to 10,000 */
   ROTHC_STATE_BOUNDS = 10, /* a state's deficit is above its soil's largest, it has more than
-                              120,000 months, or CO2 and active pools together are above
-                              1,000,000,000 + 200,000,000 x months */
+                              120,000 months, its kept count is above 24, or CO2 and active pools
+                              together are above 1,000,000,000 + 200,000,000 x months */
   ROTHC_TURN = 11,         /* the month's number isn't months done plus 1 */
   ROTHC_MONTH_LIMIT = 12,  /* 120,000 months are done */
   ROTHC_TEMPERATURE = 13,  /* temperature is outside -400 to 500 */
@@ -66,21 +67,39 @@ enum {
   ROTHC_TABLE_LINE = 18,   /* a line of a table isn't of its form, or its month isn't the line's
                               number */
   ROTHC_SOURCE = 19,       /* the evaporation's source is neither 0 nor 1; asked after 14 */
+  ROTHC_NONE_KEPT = 20,    /* no kept month is left to take back */
   ROTHC_SHAPE = 100        /* memory of a fixed layout has another length */
 };
 
 /* The layouts: how many numbers each has, and the index of each number. */
 enum {
   ROTHC_SOIL = 8,
-  ROTHC_STATE = 11,
-  ROTHC_WEATHER = 4, /* a weather row */
-  ROTHC_LAND = 3,    /* a land row */
-  ROTHC_ENTRIES = 7, /* a month's: a weather row and a land row */
+  ROTHC_KEPT_STATE = 11, /* a state as it is kept */
+  ROTHC_KEPT_LIMIT = 24, /* the most that are kept */
+  ROTHC_STATE = 276,     /* the current state's 11, the kept count, and 24 places of 11 */
+  ROTHC_WEATHER = 4,     /* a weather row */
+  ROTHC_LAND = 3,        /* a land row */
+  ROTHC_ENTRIES = 7,     /* a month's: a weather row and a land row */
   ROTHC_ROW = 7,
   ROTHC_RESULT = 2
 };
 
-/* A soil, 8 x uint64_t. A state, 11 x uint64_t, is a soil and three numbers more. */
+/* A soil, 8 x uint64_t.
+ *
+ * A state, 276 x uint64_t. Index 0 to 10 is the current state: a soil and three numbers more. Index
+ * 11 is the kept count: how many months can be taken back, 0 to 24. From index 12 on there are 24
+ * places for the states before the latest months: place p, counted from 0, begins at
+ * ROTHC_STATE_PLACES + ROTHC_KEPT_STATE * p and holds what index 0 to 10 held in the state that is
+ * kept there. The state with m months done is kept at place m mod 24, so that the 25th goes where
+ * the oldest was. Kept are the states with 1, 2, 3 .. months done fewer than the current one, as
+ * many as the count says; the other places hold what they held before.
+ *
+ * No call checks the kept states: the places can hold anything. Only rothc_month and rothc_list
+ * write them, and only rothc_take_back reads them, so that they need not be set before rothc_start.
+ * The 276 numbers can be copied, saved and lent again as they are. Whoever has only the first
+ * eleven, which were a whole state before change 2026-02, has no kept months and must set the kept
+ * count to 0: with another count rothc_take_back restores whatever stands in the place. For the
+ * same reason let only the library change the months done and the kept count. */
 enum {
   ROTHC_SOIL_CLAY = 0,
   ROTHC_SOIL_DEPTH = 1,
@@ -93,7 +112,9 @@ enum {
   ROTHC_SOIL_IOM = 7,  /* inert organic matter, which never changes */
   ROTHC_STATE_DEFICIT = 8,
   ROTHC_STATE_MONTHS = 9, /* months done */
-  ROTHC_STATE_CO2 = 10    /* CO2 to date, grams of carbon */
+  ROTHC_STATE_CO2 = 10,   /* CO2 to date, grams of carbon */
+  ROTHC_STATE_KEPT = 11,  /* the kept count */
+  ROTHC_STATE_PLACES = 12 /* the first place */
 };
 
 /* A month's entries, 7 x int64_t. A list's weather row is the first four and its land row the last
@@ -137,45 +158,60 @@ enum { ROTHC_RESULT_SETTLED = 0, ROTHC_RESULT_YEARS = 1 };
  * 3 or n above 8,363,900,000, the largest rate number of a month. */
 uint64_t rothc_survival(uint64_t n, uint64_t pool);
 
-/* Writes the new state of a soil: the soil's numbers, and 0 for the deficit, the months done and
- * the CO2 to date.
+/* Writes the new state of a soil: the soil's numbers, and 0 for the deficit, the months done, the
+ * CO2 to date and the kept count. The places stay as they were.
  * soil: ROTHC_SOIL numbers. state: ROTHC_STATE numbers, of any values.
  * Refusals: CLAY, DEPTH, KIND, CARBON. A refusal leaves state as it was. */
 uint64_t rothc_start(const uint64_t *soil, size_t soil_len, uint64_t *state, size_t state_len);
 
-/* Runs one month: moves the state on and writes the month's row. number is the month's: months done
- * plus 1.
+/* Runs one month: keeps the state before it, moves the state on and writes the month's row. number
+ * is the month's: months done plus 1. The kept count is one more, or stays 24: then the oldest kept
+ * month is gone.
  * state: ROTHC_STATE numbers. entries: ROTHC_ENTRIES numbers. row: ROTHC_ROW numbers, of any
  * values.
  * Refusals: CLAY to CARBON for the state's soil, STATE_BOUNDS, and TURN to CEILING, with SOURCE
- * after WATER. A refusal leaves state and row as they were. */
+ * after WATER. A refusal leaves state and row as they were: a refused month keeps nothing. */
 uint64_t rothc_month(uint64_t *state, size_t state_len, uint64_t number, const int64_t *entries,
                      size_t entries_len, uint64_t *row, size_t row_len);
 
+/* Takes the latest month back, whether rothc_month or rothc_list ran it: the state before it is the
+ * current one again, so that the month can be booked afresh (docs/SLIPS.md). Another call takes
+ * back the month before that.
+ * Index 0 to 10 become what was kept, the months done and the CO2 to date among them, and the kept
+ * count is one less. The places stay as they were. A state doesn't hold the entries of its months:
+ * the caller has to have those that are to be booked again. The row of a month taken back is void.
+ * state: ROTHC_STATE numbers.
+ * Refusals: NONE_KEPT where the kept count is 0, before any other check; STATE_BOUNDS where it is
+ * above 24. Nothing else is checked, neither the current state nor the one that is restored. A
+ * refusal leaves state as it was. */
+uint64_t rothc_take_back(uint64_t *state, size_t state_len);
+
 /* Runs a list of months, one for each land row, and writes their rows one after another to the
  * start of rows; what lies past the last row written stays. Month j, counted from 1, takes land row
- * j and weather row ((j - 1) mod weather rows) + 1.
+ * j and weather row ((j - 1) mod weather rows) + 1. Each month that runs keeps the state before it,
+ * as rothc_month does, so that a list's last 24 months can be taken back.
  * state: ROTHC_STATE numbers. weather: temperature, rain, evaporation, source for each row. land:
  * cover, plant, manure for each row. rows: at least ROTHC_ROW numbers a land row. place: one
  * number.
  * Refusals: ROWS, CLAY to CARBON, ROOM, STATE_BOUNDS leave state and rows as they were and set
  * place to 0. MONTH_LIMIT to CEILING, with SOURCE after WATER, set place to the month that is
  * refused, counted from the list's first: the months before it have run, state is the one after
- * them, and their rows are written. Where the list ran to its end, place is 0. Only rows that its
- * months use are checked. */
+ * them with the states before them kept, and their rows are written. Where the list ran to its end,
+ * place is 0. Only rows that its months use are checked. */
 uint64_t rothc_list(uint64_t *state, size_t state_len, const int64_t *weather, size_t weather_len,
                     const int64_t *land, size_t land_len, uint64_t *rows, size_t rows_len,
                     uint64_t *place);
 
 /* Repeats twelve weather and twelve land rows, year after year, until the first year whose end
  * total (five pools) is at most 1,000 g from the total at its start, or until the years are run,
- * and leaves the state reached.
+ * and leaves the state reached, settled or not, with none kept: the kept count is 0, and the places
+ * stay as they were.
  * state: ROTHC_STATE numbers. weather: 48 numbers, land: 36, as in a list. years: those allowed, 1
  * to 10,000. result: ROTHC_RESULT numbers: 1 for settled or 0 for unsettled, and the years run.
  * Refusals: ROWS, CLAY to CARBON, YEARS, STATE_BOUNDS, and for one of the months MONTH_LIMIT to
- * CEILING, with SOURCE after WATER. A refusal leaves state as it was; result then has 0 and the
- * month that is refused, counted over all years from the first, or 0 for a fault outside the
- * months. */
+ * CEILING, with SOURCE after WATER. A refusal leaves state as it was, the kept months too; result
+ * then has 0 and the month that is refused, counted over all years from the first, or 0 for a fault
+ * outside the months. */
 uint64_t rothc_spin_up(uint64_t *state, size_t state_len, const int64_t *weather,
                        size_t weather_len, const int64_t *land, size_t land_len, uint64_t years,
                        uint64_t *result, size_t result_len);

@@ -7,6 +7,8 @@ Unsigned, Signed, Byte, Size = ctypes.c_uint64, ctypes.c_int64, ctypes.c_uint8, 
 LIBRARY = pathlib.Path(__file__).resolve().parents[2] / "target" / "library" / "librothc.so"
 TEXT = 204800  # always enough bytes for what is written for a book
 WEATHER, LAND, ROW = 4, 3, 7  # the numbers of a weather row, a land row and a month's row
+STATE = 276  # the numbers of a state, kept months too
+MONTHS, CO2, KEPT = 9, 10, 11  # in a state: the months done, the CO2 to date, the kept count
 MOST_ROWS = 1200  # the most lines of a table
 
 
@@ -20,6 +22,7 @@ def load():
         "rothc_survival": [Unsigned, Unsigned],
         "rothc_start": numbers + numbers,
         "rothc_month": numbers + [Unsigned] + signed + numbers,
+        "rothc_take_back": numbers,
         "rothc_list": numbers + signed + signed + numbers + number,
         "rothc_spin_up": numbers + signed + signed + [Unsigned] + numbers,
         "rothc_book": octets + octets + number,
@@ -44,6 +47,28 @@ def stop(message):
     """Ends the program, with status 2: what was asked couldn't be tried at all."""
     print(message, file=sys.stderr)
     sys.exit(2)
+
+
+def new_state(library, soil):
+    """The new state of a soil's eight numbers, as memory to lend. Nothing is kept in it."""
+    state = lent(Unsigned, [0] * STATE)
+    done("rothc_start", library.rothc_start(*lent(Unsigned, soil), *state))
+    return state
+
+
+def total(state):
+    """The five pools together."""
+    return sum(state[0][3:8])
+
+
+def kept(state):
+    """How many months can be taken back."""
+    return state[0][KEPT]
+
+
+def take_back(library, state):
+    """Takes the latest month back. Gives the refusal, 20 where none is left, or 0."""
+    return library.rothc_take_back(*state)
 
 
 def run_book(library, book):

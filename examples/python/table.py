@@ -14,7 +14,9 @@ docs/TABLES.md says how a table is written, docs/BOOK.md how a book is.
 import ctypes
 import sys
 
-from rothc import LAND, ROW, Signed, Unsigned, done, lent, load, read_table, run_book, stop
+from rothc import (
+    CO2, LAND, ROW, Signed, Unsigned, lent, load, new_state, read_table, run_book, stop, total,
+)
 
 BOOK_FAULTS = {
     1: "it has more than 65,536 bytes",
@@ -83,8 +85,8 @@ def main():
     soil, land = numbers(lines[1:2]), numbers(lines[land_line:])
     months = len(land) // LAND
 
-    state, rows, place = lent(Unsigned, [0] * 11), lent(Unsigned, [0] * (ROW * months)), Unsigned(0)
-    done("rothc_start", rothc.rothc_start(*lent(Unsigned, soil), *state))
+    state, rows = new_state(rothc, soil), lent(Unsigned, [0] * (ROW * months))
+    place = Unsigned(0)
     number = rothc.rothc_list(
         *state, *lent(Signed, weather), *lent(Signed, land), *rows, ctypes.byref(place)
     )
@@ -93,7 +95,7 @@ def main():
     print("POOLS", months)
     for month in range(months):
         print(month + 1, *rows[0][ROW * month : ROW * (month + 1)])
-    print("TOTAL", sum(state[0][3:8]), state[0][10])
+    print("TOTAL", total(state), state[0][CO2])
 
 
 if __name__ == "__main__":

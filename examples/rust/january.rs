@@ -1,4 +1,5 @@
-// January 1852 at Hoosfield: by the month call, by a list of one month, and by a book.
+// January 1852 at Hoosfield: by the month call, by a list of one month, and by a book. The month
+// call's January is then taken back.
 mod rothc {
     // include/rothc.h says what each function does and what each number is.
     mod c {
@@ -13,6 +14,7 @@ mod rothc {
                 row: *mut u64,
                 row_len: usize,
             ) -> u64;
+            pub fn rothc_take_back(state: *mut u64, state_len: usize) -> u64;
             pub fn rothc_list(
                 state: *mut u64,
                 state_len: usize,
@@ -28,13 +30,16 @@ mod rothc {
         }
     }
 
-    pub type State = [u64; 11];
+    // The current state, the kept count and the places of kept states.
+    const STATE: usize = 276;
+    pub const KEPT: usize = 11; // the index of the kept count
+    pub type State = [u64; STATE];
     pub type Row = [u64; 7];
 
     // Slices have the pointers and lengths that the functions ask for, and a `&mut` overlaps
     // nothing else: so these are safe.
     pub fn start(soil: &[u64; 8]) -> Result<State, u64> {
-        let mut state = [0; 11];
+        let mut state = [0; STATE];
         match unsafe { c::rothc_start(soil.as_ptr(), soil.len(), state.as_mut_ptr(), state.len()) } {
             0 => Ok(state),
             number => Err(number),
@@ -48,6 +53,14 @@ mod rothc {
         };
         match answer {
             0 => Ok(row),
+            number => Err(number),
+        }
+    }
+
+    // Takes the latest month back.
+    pub fn take_back(state: &mut State) -> Result<(), u64> {
+        match unsafe { c::rothc_take_back(state.as_mut_ptr(), state.len()) } {
+            0 => Ok(()),
             number => Err(number),
         }
     }
@@ -103,6 +116,11 @@ fn main() {
     let mut state = start;
     let row = rothc::month(&mut state, 1, &[34, 740, 80, 0, 0, 0, 0]).expect("rothc_month: refused");
     print(1, &row, &state);
+
+    // taken back, the field is new again, and no month is left to take back
+    rothc::take_back(&mut state).expect("rothc_take_back: refused");
+    assert_eq!(state[..=rothc::KEPT], start[..=rothc::KEPT]);
+    assert_eq!(rothc::take_back(&mut state), Err(20));
 
     let mut state = start;
     let mut row = [0; 7];

@@ -4,12 +4,13 @@
 //! reference.
 
 use crate::calls::{
-    entries_of, soil_of, state_of, Call, EntryNumbers, LandRow, SoilNumbers, StateNumbers,
-    WeatherRow, CLAY, CO2, COVER, DEFICIT, DEPTH, EVAPORATION, FILL, INERT, KIND, MANURE, MONTHS,
-    PLANT, POOLS, RAIN, SOIL_NUMBERS, SOURCE, TEMPERATURE,
+    entries_of, lent_state, soil_of, state_of, Act, Call, EntryNumbers, LandRow, OwnNumbers,
+    SoilNumbers, StateNumbers, WeatherRow, CLAY, CO2, COVER, DEFICIT, DEPTH, EVAPORATION, FILL,
+    INERT, KEPT, KIND, MANURE, MONTHS, MOST_ACTS, OWN_NUMBERS, PLACES, PLANT, POOLS, RAIN,
+    SOIL_NUMBERS, SOURCE, STATE_NUMBERS, TEMPERATURE,
 };
 use crate::exponential::{allowed_range, survival_nearest, BILLION};
-use crate::model::{factors, kept, LAND_NUMBERS, OUTPUT_NUMBERS, RATES, WEATHER_NUMBERS};
+use crate::model::{factors, kept, Nearest, LAND_NUMBERS, OUTPUT_NUMBERS, RATES, WEATHER_NUMBERS};
 use crate::table;
 use crate::vectors::Draw;
 
@@ -40,6 +41,7 @@ impl Sheet {
     }
 
     fn put(&mut self, call: Call, answer: Vec<u64>) {
+        assert!(call.is_said(), "{}", call.line());
         let group = self.groups.last_mut().expect("a group");
         group.lines.push(Line { call, answer });
     }
@@ -135,6 +137,7 @@ pub fn groups() -> Vec<Group> {
     month_factors(&mut sheet);
     month_sources(&mut sheet);
     month_evapotranspiration(&mut sheet);
+    month_kept(&mut sheet);
     list_rows(&mut sheet);
     list_output(&mut sheet);
     list_outside(&mut sheet);
@@ -142,11 +145,23 @@ pub fn groups() -> Vec<Group> {
     list_weather(&mut sheet);
     list_drawn(&mut sheet);
     list_sources(&mut sheet);
+    list_kept(&mut sheet);
     spin_outside(&mut sheet);
     spin_years(&mut sheet);
     spin_places(&mut sheet);
     spin_drawn(&mut sheet);
     spin_sources(&mut sheet);
+    spin_kept(&mut sheet);
+    back_places(&mut sheet);
+    back_refused(&mut sheet);
+    back_unchecked(&mut sheet);
+    history_late_slip(&mut sheet);
+    history_limit(&mut sheet);
+    history_none_kept(&mut sheet);
+    history_refused_months(&mut sheet);
+    history_lists(&mut sheet);
+    history_spin_ups(&mut sheet);
+    history_drawn(&mut sheet);
     table_forms(&mut sheet);
     table_numbers(&mut sheet);
     table_months(&mut sheet);
@@ -185,10 +200,13 @@ const SIGNED_ENDS: [i64; 9] = [
 
 /// A soil that nothing refuses, with small pools.
 const SOIL: SoilNumbers = [234, 23, 1, 1_533, 44_852, 6_671, 258_576, 27_000];
-/// A state that nothing refuses: ten months done.
-const STATE: StateNumbers = [
-    234, 23, 1, 1_533, 44_852, 6_671, 258_576, 27_000, 5_000_000, 10, 12_345,
-];
+/// A state that nothing refuses: ten months done, none kept.
+const STATE: StateNumbers = lent_state(
+    [
+        234, 23, 1, 1_533, 44_852, 6_671, 258_576, 27_000, 5_000_000, 10, 12_345,
+    ],
+    0,
+);
 /// Frost: nothing decays, so any pools are fixed.
 const FROST: EntryNumbers = [-60, 500, 300, 0, 0, 61, 99];
 const MILD: EntryNumbers = [93, 520, 830, 0, 1, 610, 990];
@@ -350,9 +368,9 @@ fn entered(changes: &[(usize, i64)]) -> Call {
 /// The known figures that a month can show.
 fn month_known(sheet: &mut Sheet) {
     sheet.group("M: January 1852 and the other known figures of document 01");
-    let hoosfield = [
-        234, 23, 1, 153_300, 4_485_200, 667_100, 25_857_600, 2_700_000, 0, 0, 0,
-    ];
+    let hoosfield = new_state([
+        234, 23, 1, 153_300, 4_485_200, 667_100, 25_857_600, 2_700_000,
+    ]);
     let january = month(hoosfield, 1, [34, 740, 80, 0, 0, 0, 0]);
     sheet.runs(january);
     assert_eq!(
@@ -940,6 +958,7 @@ fn drawn_month(draw: &mut Draw, clay: u64, temperature: i64, source: i64) -> Cal
         state[DEFICIT] = draw.below(4).min(1) * draw.below(limit + 1);
         state[MONTHS] = draw.below(120_000);
         state[CO2] = draw.below(1_000_000);
+        state[KEPT] = draw.below(25);
         let entries = [
             temperature,
             draw.between(0, 900),
@@ -1050,6 +1069,37 @@ fn drawn_entries(draw: &mut Draw) -> EntryNumbers {
     std::array::from_fn(|place| [&sky[..], &field].concat()[place])
 }
 
+/// Kept counts that run and that are 10, and 10 for them in its turn.
+fn month_kept(sheet: &mut Sheet) {
+    sheet.group("M: kept counts 0 to 24 run and rise to 24, above is 10: after 4 to 7, before 11");
+    for kept in 0..=24u64 {
+        sheet.runs(frozen(&[(KEPT, kept)]));
+        assert_eq!(
+            sheet.answer()[1 + OUTPUT_NUMBERS + KEPT],
+            (kept + 1).min(24)
+        );
+    }
+    for kept in [25, 26, 48].iter().chain(&ENDS) {
+        sheet.refused(10, frozen(&[(KEPT, *kept)]));
+    }
+    // 24 kept is no fault beside any other; 25 comes between 7 and 11.
+    for kept in [24, 25, u64::MAX] {
+        for number in MONTH_REFUSALS {
+            let Call::Month {
+                mut state,
+                number: turn,
+                entries,
+            } = faulty(&[number], 0)
+            else {
+                unreachable!()
+            };
+            state[KEPT] = kept;
+            let first = if kept > 24 && number > 7 { 10 } else { number };
+            sheet.refused(first, month(state, turn, entries));
+        }
+    }
+}
+
 // ---- L: a list of months ----
 
 fn list(weather: &[i64], land: &[i64], output: usize, state: StateNumbers) -> Call {
@@ -1063,9 +1113,13 @@ fn list(weather: &[i64], land: &[i64], output: usize, state: StateNumbers) -> Ca
 
 /// New state of the small soil.
 fn fresh() -> StateNumbers {
-    let mut state = [0; 11];
-    state[..SOIL_NUMBERS].copy_from_slice(&SOIL);
-    state
+    new_state(SOIL)
+}
+
+fn new_state(soil: SoilNumbers) -> StateNumbers {
+    let mut own = [0; OWN_NUMBERS];
+    own[..SOIL_NUMBERS].copy_from_slice(&soil);
+    lent_state(own, 0)
 }
 
 fn rows<const N: usize>(row: [i64; N], count: usize) -> Vec<i64> {
@@ -1149,7 +1203,7 @@ fn list_outside(sheet: &mut Sheet) {
     sheet.group("L: state faults 4 to 7 and 10, and the order 3, 4 to 7, 8, 10, months");
     let land = rows(CROP, 2);
     let limit = deficit_limit(&STATE);
-    let faults: [(u64, &[(usize, u64)]); 16] = [
+    let faults: [(u64, &[(usize, u64)]); 18] = [
         (4, &[(CLAY, 1001)]),
         (4, &[(CLAY, u64::MAX)]),
         (5, &[(DEPTH, 0)]),
@@ -1166,6 +1220,8 @@ fn list_outside(sheet: &mut Sheet) {
         (10, &[(CO2, CEILING + 10 * A_MONTH)]),
         (10, &[(CO2, u64::MAX)]),
         (10, &[(MONTHS, 0), (CO2, CEILING)]),
+        (10, &[(KEPT, 25)]),
+        (10, &[(KEPT, u64::MAX)]),
     ];
     for (number, changes) in faults {
         let state = changed(STATE, changes);
@@ -1376,9 +1432,44 @@ fn list_sources(sheet: &mut Sheet) {
     }
 }
 
-/// A state that nothing refuses, with pools up to this.
+/// What a list does to the kept count.
+fn list_kept(sheet: &mut Sheet) {
+    sheet.group("L: each month that ran is kept, up to 24; refused with place 0 keeps nothing");
+    for kept in [0, 1, 12, 22, 23, 24] {
+        let state = changed(STATE, &[(KEPT, kept)]);
+        for months in [1, 2, 3, 23, 24, 25, 40] {
+            sheet.runs(list(&COLD, &rows(CROP, months), months * 7, state));
+            assert_eq!(sheet.answer()[2 + KEPT], (kept + months as u64).min(24));
+        }
+        // Refused at months 1, 2 and 4: none, 1 and 3 are kept.
+        for place in [1, 2, 4] {
+            let mut land = rows(CROP, 5);
+            land[place * 3 - 3] = 2;
+            sheet.refused_at(15, place as u64, list(&COLD, &land, 35, state));
+            assert_eq!(sheet.answer()[2 + KEPT], (kept + place as u64 - 1).min(24));
+        }
+        sheet.refused_at(8, 0, list(&COLD, &CROP, 6, state));
+        sheet.refused_at(3, 0, list(&COLD, &CROP[..2], 7, state));
+    }
+    for kept in [25, 26, 1 << 32] {
+        let state = changed(STATE, &[(KEPT, kept)]);
+        sheet.refused_at(10, 0, list(&COLD, &CROP, 7, state));
+        sheet.refused_at(8, 0, list(&COLD, &CROP, 6, state));
+        // 10 before 12, and before a fault of the first month.
+        let late = changed(state, &[(MONTHS, 120_000)]);
+        sheet.refused_at(10, 0, list(&COLD, &CROP, 7, late));
+        sheet.refused_at(10, 0, list(&COLD, &[2, 0, 0], 7, state));
+        sheet.refused_at(
+            7,
+            0,
+            list(&COLD, &CROP, 6, changed(state, &[(INERT, CEILING + 1)])),
+        );
+    }
+}
+
+/// A state that nothing refuses, with pools up to this and up to 24 kept.
 fn drawn_state(draw: &mut Draw, largest: u64) -> StateNumbers {
-    let mut state = [0; 11];
+    let mut state = lent_state([0; OWN_NUMBERS], draw.below(25));
     state[CLAY] = draw.below(1001);
     state[DEPTH] = 1 + draw.below(100);
     state[KIND] = 1 + draw.below(3);
@@ -1454,7 +1545,7 @@ fn spin_outside(sheet: &mut Sheet) {
         sheet.refused_at(9, 0, spin(&weather, &land, years, STATE));
     }
     let limit = deficit_limit(&STATE);
-    let faults: [(u64, &[(usize, u64)]); 11] = [
+    let faults: [(u64, &[(usize, u64)]); 13] = [
         (4, &[(CLAY, 1001)]),
         (5, &[(DEPTH, 0)]),
         (5, &[(DEPTH, 101)]),
@@ -1466,6 +1557,8 @@ fn spin_outside(sheet: &mut Sheet) {
         (10, &[(MONTHS, 120_001)]),
         (10, &[(CO2, CEILING + 10 * A_MONTH)]),
         (10, &[(CO2, u64::MAX)]),
+        (10, &[(KEPT, 25)]),
+        (10, &[(KEPT, u64::MAX)]),
     ];
     for (number, changes) in faults {
         let state = changed(STATE, changes);
@@ -1677,6 +1770,563 @@ fn spin_sources(sheet: &mut Sheet) {
         let land = first_month(plant);
         sheet.alike(&alike_skies(12).map(|weather| spin(&weather, &land, 3, tiny)));
     }
+}
+
+/// What a spin-up does to the kept count.
+fn spin_kept(sheet: &mut Sheet) {
+    sheet.group("S: settled or unsettled none is kept, refused all stay; above 24 is 10 after 9");
+    let weather = rows(COLD, 12);
+    for kept in [0, 1, 23, 24] {
+        let state = changed(STATE, &[(KEPT, kept)]);
+        for (plant, settled) in [(0, 1), (1_001, 0)] {
+            sheet.runs(spin(&weather, &first_month(plant), 2, state));
+            assert_eq!(sheet.answer()[1], settled);
+            assert_eq!(sheet.answer()[3 + KEPT], 0);
+        }
+        let full = changed(state, &pools([950_000_000, 0, 0, 0]));
+        let mut wrong = first_month(0);
+        wrong[3] = 2;
+        for (number, place, call) in [
+            (3, 0, spin(&weather, &wrong[3..], 2, state)),
+            (9, 0, spin(&weather, &first_month(0), 0, state)),
+            (15, 2, spin(&weather, &wrong, 2, state)),
+            (17, 13, spin(&weather, &first_month(50_000_000), 2, full)),
+        ] {
+            sheet.refused_at(number, place, call);
+            assert_eq!(sheet.answer()[3 + KEPT], kept);
+        }
+    }
+    for kept in [25, 26, 1 << 63] {
+        let state = changed(STATE, &[(KEPT, kept)]);
+        sheet.refused_at(10, 0, spin(&weather, &first_month(0), 1, state));
+        sheet.refused_at(9, 0, spin(&weather, &first_month(0), 0, state));
+        sheet.refused_at(9, 0, spin(&weather, &first_month(0), 10_001, state));
+        sheet.refused_at(10, 0, spin(&weather, &first_month(-1), 1, state));
+        let late = changed(state, &[(MONTHS, 120_000)]);
+        sheet.refused_at(10, 0, spin(&weather, &first_month(0), 1, late));
+        let deep = changed(state, &[(DEPTH, 101)]);
+        sheet.refused_at(5, 0, spin(&weather, &first_month(0), 1, deep));
+    }
+}
+
+// ---- B: taking a month back ----
+
+/// A taking-back from this state, place p holding base + p.
+fn back(state: StateNumbers, base: OwnNumbers) -> Call {
+    let mut state = state;
+    for (index, number) in state[PLACES..].iter_mut().enumerate() {
+        let place = (index / OWN_NUMBERS) as u64;
+        *number = base[index % OWN_NUMBERS].wrapping_add(place);
+    }
+    Call::TakeBack { state }
+}
+
+/// A base that tells the numbers of a kept state apart, and the places.
+const BASE: OwnNumbers = [100, 200, 300, 400, 500, 600, 700, 800, 900, 1_000, 1_100];
+
+/// A taking-back that restores place p.
+fn restores(sheet: &mut Sheet, place: u64, state: StateNumbers, base: OwnNumbers) {
+    sheet.runs(back(state, base));
+    let wanted = base.map(|number| number.wrapping_add(place));
+    assert_eq!(sheet.answer()[1..=OWN_NUMBERS], wanted);
+    assert_eq!(sheet.answer()[1 + KEPT], state[KEPT] - 1);
+}
+
+/// Which place is restored, by the months done.
+fn back_places(sheet: &mut Sheet) {
+    sheet
+        .group("B: months done from 0 to the end of u64 and the place restored; kept counts to 24");
+    for (months, place) in [
+        (0, 23),
+        (1, 0),
+        (2, 1),
+        (12, 11),
+        (23, 22),
+        (24, 23),
+        (25, 0),
+        (26, 1),
+        (47, 22),
+        (48, 23),
+        (49, 0),
+        (119_999, 22),
+        (120_000, 23),
+        (120_001, 0),
+        // 2^32 and 2^64 are 16 over a multiple of 24, 2^63 is 8 over one: a sum that wraps would
+        // give another place.
+        ((1 << 32) - 1, 14),
+        (1 << 32, 15),
+        (1 << 63, 7),
+        (u64::MAX - 16, 22),
+        (u64::MAX - 15, 23),
+        (u64::MAX - 14, 0),
+        (u64::MAX - 1, 13),
+        (u64::MAX, 14),
+    ] {
+        for kept in [1, 24] {
+            let state = changed(STATE, &[(MONTHS, months), (KEPT, kept)]);
+            restores(sheet, place, state, BASE);
+        }
+    }
+    for kept in 1..=24 {
+        restores(sheet, 9, changed(STATE, &[(KEPT, kept)]), BASE);
+    }
+}
+
+/// 20 with none kept, before 10; 10 above 24; all stays.
+fn back_refused(sheet: &mut Sheet) {
+    sheet.group("B: 20 with none kept, 10 with more than 24, whatever the other numbers are");
+    let wrong: [OwnNumbers; 5] = [
+        [0; OWN_NUMBERS],
+        [u64::MAX; OWN_NUMBERS],
+        [1 << 63; OWN_NUMBERS],
+        [
+            5_000,
+            0,
+            4,
+            u64::MAX,
+            1,
+            CEILING,
+            CEILING,
+            CEILING + 1,
+            u64::MAX,
+            120_001,
+            u64::MAX,
+        ],
+        [
+            1_001,
+            101,
+            0,
+            CEILING + 1,
+            0,
+            0,
+            0,
+            u64::MAX,
+            1 << 62,
+            u64::MAX,
+            1 << 63,
+        ],
+    ];
+    for (number, kept) in [(20, 0), (10, 25), (10, 26), (10, 48)] {
+        for months in [0, 1, 23, 24, 25, 120_000, 120_001, u64::MAX] {
+            let state = changed(STATE, &[(MONTHS, months), (KEPT, kept)]);
+            sheet.refused(number, back(state, BASE));
+        }
+        for own in wrong {
+            sheet.refused(number, back(lent_state(own, kept), BASE));
+            sheet.refused(number, back(lent_state(own, kept), own));
+        }
+    }
+    for kept in ENDS {
+        sheet.refused(10, back(changed(STATE, &[(KEPT, kept)]), BASE));
+        sheet.refused(10, back(lent_state(wrong[1], kept), wrong[1]));
+    }
+}
+
+/// Nothing but the count is asked: neither the state that goes nor the one that comes.
+fn back_unchecked(sheet: &mut Sheet) {
+    sheet.group("B: neither the state taken back nor the kept one is checked; sums that wrap");
+    for (index, value) in [
+        (CLAY, 5_000),
+        (CLAY, u64::MAX),
+        (DEPTH, 0),
+        (DEPTH, 101),
+        (KIND, 0),
+        (KIND, 4),
+        (POOLS, CEILING + 1),
+        (POOLS + 3, u64::MAX),
+        (INERT, CEILING + 1),
+        (DEFICIT, u64::MAX),
+        (MONTHS, 120_001),
+        (CO2, u64::MAX),
+    ] {
+        let state = changed(STATE, &[(index, value), (KEPT, 3)]);
+        let place = (state[MONTHS] % 24 + 23) % 24;
+        restores(sheet, place, state, BASE);
+        restores(
+            sheet,
+            9,
+            changed(STATE, &[(KEPT, 24)]),
+            changed(BASE, &[(index, value)]),
+        );
+        restores(sheet, place, state, changed(BASE, &[(index, value)]));
+    }
+    for own in [0, u64::MAX, u64::MAX - 8, u64::MAX - 9, 1 << 63] {
+        let state = lent_state([own; OWN_NUMBERS], 1);
+        let place = (own % 24 + 23) % 24;
+        restores(sheet, place, state, [own; OWN_NUMBERS]);
+        restores(sheet, 9, changed(STATE, &[(KEPT, 1)]), [own; OWN_NUMBERS]);
+    }
+    // The kept state's own months don't matter: they needn't be one less.
+    for months in [0, 9, 10, 120_000, u64::MAX] {
+        restores(
+            sheet,
+            9,
+            changed(STATE, &[(KEPT, 2)]),
+            changed(BASE, &[(MONTHS, months)]),
+        );
+    }
+}
+
+// ---- H: histories ----
+
+fn history(soil: SoilNumbers, acts: &[Act]) -> Call {
+    Call::History {
+        soil,
+        acts: acts.to_vec(),
+    }
+}
+
+/// The state at the end of the last line, a history.
+fn end(sheet: &Sheet) -> &[u64] {
+    let answer = sheet.answer();
+    &answer[answer.len() - STATE_NUMBERS..]
+}
+
+/// A history on the small soil in which just these acts (from 1) are refused, with these numbers.
+fn told(sheet: &mut Sheet, acts: &[Act], refused: &[(usize, u64)]) {
+    told_on(sheet, SOIL, acts, refused);
+}
+
+fn told_on(sheet: &mut Sheet, soil: SoilNumbers, acts: &[Act], refused: &[(usize, u64)]) {
+    sheet.runs(history(soil, acts));
+    let mut wanted = vec![0; acts.len()];
+    for (act, number) in refused {
+        wanted[act - 1] = *number;
+    }
+    assert_eq!(sheet.answer()[1..=acts.len()], wanted, "{acts:?}");
+}
+
+const BACK: Act = Act::TakeBack;
+
+fn booked(number: u64, entries: EntryNumbers) -> Act {
+    Act::Month { number, entries }
+}
+
+/// The months of a farm's year, in turn.
+fn farm(number: u64) -> Act {
+    const YEAR: [EntryNumbers; 12] = [
+        [34, 740, 80, 0, 0, 0, 0],
+        [36, 590, 100, 0, 0, 0, 0],
+        [51, 620, 270, 0, 1, 0, 0],
+        [73, 510, 370, 1, 1, 120, 0],
+        [110, 520, 830, 0, 1, 340, 0],
+        [139, 570, 990, 0, 1, 560, 0],
+        [160, 340, 770, 1, 1, 1_780, 0],
+        [160, 550, 910, 0, 1, 0, 0],
+        [133, 580, 690, 0, 0, 0, 2_400],
+        [102, 560, 255, 1, 0, 0, 0],
+        [61, 750, 160, 0, 0, 0, 0],
+        [46, 710, 80, 0, 0, 0, 0],
+    ];
+    booked(number, YEAR[(number as usize - 1) % 12])
+}
+
+/// A farm's months from the first of these numbers to the last.
+fn farmed(first: u64, last: u64) -> Vec<Act> {
+    (first..=last).map(farm).collect()
+}
+
+/// A farm's month with this manure.
+fn manured(number: u64, manure: i64) -> Act {
+    let Act::Month { number, entries } = farm(number) else {
+        unreachable!()
+    };
+    booked(number, changed(entries, &[(MANURE, manure)]))
+}
+
+/// February's slip comes in after March is booked: both are taken back and booked afresh. The first
+/// time it is the field's first month, so that the new state comes back.
+fn history_late_slip(sheet: &mut Sheet) {
+    sheet.group(
+        "H: February's slip after March, both taken back and booked afresh; then the same with the \
+         slip in time: all 276 numbers are equal, as the places taken back are written again",
+    );
+    let slip = 18_500;
+    for before in [0, 1, 25, 37] {
+        let february = before + 1;
+        let late = [
+            &farmed(1, before)[..],
+            &[farm(february), farm(february + 1), BACK, BACK],
+            &[manured(february, slip), farm(february + 1)],
+        ];
+        told(sheet, &late.concat(), &[]);
+        let late = end(sheet).to_vec();
+        let in_time = [
+            &farmed(1, before)[..],
+            &[manured(february, slip), farm(february + 1)],
+        ];
+        told(sheet, &in_time.concat(), &[]);
+        assert_eq!(end(sheet), late);
+        assert_eq!(late[KEPT], (before + 2).min(24));
+    }
+    sheet.group(
+        "H: the slip as a month of its own is 11 under February's number; months taken back and not \
+         booked again: the state is that of the months that remain, kept count and places differ",
+    );
+    let run = farmed(1, 4);
+    told(sheet, &[&run[..], &[manured(2, slip)]].concat(), &[(5, 11)]);
+    told(
+        sheet,
+        &[&run[..], &[BACK, manured(5, slip)]].concat(),
+        &[(6, 11)],
+    );
+    for (months, taken) in [(3, 1), (3, 3), (30, 5), (30, 24)] {
+        let backs = vec![BACK; taken as usize];
+        told(sheet, &[farmed(1, months), backs].concat(), &[]);
+        let taken_back = end(sheet).to_vec();
+        told(sheet, &farmed(1, months - taken), &[]);
+        let alone = end(sheet);
+        assert_eq!(taken_back[..OWN_NUMBERS], alone[..OWN_NUMBERS]);
+        assert_eq!(alone[KEPT], (months - taken).min(24));
+        assert_eq!(taken_back[KEPT], months.min(24) - taken);
+        assert_ne!(taken_back[PLACES..], alone[PLACES..]);
+    }
+}
+
+/// 24 months can be taken back, the 25th is 20.
+fn history_limit(sheet: &mut Sheet) {
+    sheet.group("H: 30 months by calls and by a list; 24 taken back, the 25th and 26th are 20");
+    for taken in [23, 24, 25, 26] {
+        let mut refused: Vec<(usize, u64)> = (31 + 24..=30 + taken).map(|act| (act, 20)).collect();
+        told(
+            sheet,
+            &[farmed(1, 30), vec![BACK; taken]].concat(),
+            &refused,
+        );
+        assert_eq!(end(sheet)[MONTHS], 30 - taken.min(24) as u64);
+        refused.iter_mut().for_each(|(act, _)| *act -= 29);
+        let list = vec![listed(30, MILD)];
+        told(sheet, &[list, vec![BACK; taken]].concat(), &refused);
+    }
+    // After the 20 the months can be booked again.
+    let again = [
+        vec![listed(30, MILD)],
+        vec![BACK; 25],
+        farmed(7, 30),
+        vec![BACK; 25],
+    ];
+    told(sheet, &again.concat(), &[(26, 20), (75, 20)]);
+    // As many kept as months: 23, 24 and 25 months.
+    for months in [23, 24, 25] {
+        let backs = vec![BACK; months.min(24) + 1];
+        let last = 1 + backs.len();
+        told(
+            sheet,
+            &[vec![listed(months, MILD)], backs].concat(),
+            &[(last, 20)],
+        );
+    }
+}
+
+fn listed(months: usize, entries: EntryNumbers) -> Act {
+    Act::List { months, entries }
+}
+
+/// 20 on a new state; a refused soil leaves memory on which the acts are made all the same.
+fn history_none_kept(sheet: &mut Sheet) {
+    sheet.group("H: taking back on a new state is 20 and changes nothing; acts on memory of 7s");
+    told(sheet, &[], &[]);
+    told(sheet, &[BACK], &[(1, 20)]);
+    let acts = [BACK, BACK, farm(1), BACK, BACK, farm(1), farm(2)];
+    told(sheet, &acts, &[(1, 20), (2, 20), (5, 20)]);
+    for (number, place, value) in [(4, CLAY, 1_001), (7, INERT, CEILING + 1)] {
+        // Kind 7 is 6; a kept count of 7 can be taken back seven times.
+        let acts = [
+            &[farm(8), listed(2, MILD), spun(1, MILD)][..],
+            &[BACK; 8],
+            &[farm(1), farm(8)],
+        ];
+        let soil = changed(SOIL, &[(place, value)]);
+        sheet.refused(number, history(soil, &acts.concat()));
+        let wanted = [number, 6, 6, 6, 0, 0, 0, 0, 0, 0, 0, 20, 6, 6];
+        assert_eq!(sheet.answer()[..14], wanted);
+        assert_eq!(end(sheet), changed([FILL; STATE_NUMBERS], &[(KEPT, 0)]));
+    }
+}
+
+fn spun(years: u64, entries: EntryNumbers) -> Act {
+    Act::SpinUp { years, entries }
+}
+
+/// A refused month keeps nothing.
+fn history_refused_months(sheet: &mut Sheet) {
+    sheet.group("H: refused months between others keep nothing, whatever their number");
+    let wrong = [
+        (13, TEMPERATURE, 501),
+        (14, RAIN, -1),
+        (14, EVAPORATION, 20_001),
+        (19, SOURCE, 2),
+        (15, COVER, -1),
+        (16, PLANT, 100_000_001),
+        (16, MANURE, -1),
+    ];
+    for (number, place, value) in wrong {
+        let refused = booked(2, changed(MILD, &[(place, value)]));
+        let acts = [farm(1), refused, refused, BACK, BACK];
+        told(sheet, &acts, &[(2, number), (3, number), (5, 20)]);
+    }
+    // 11: the month just booked, one ahead, and a number of before the taking-back.
+    let acts = [
+        farm(1),
+        farm(1),
+        farm(3),
+        farm(2),
+        BACK,
+        farm(3),
+        BACK,
+        BACK,
+    ];
+    told(sheet, &acts, &[(2, 11), (3, 11), (6, 11), (8, 20)]);
+    // 17, and all of them among 26 months.
+    let full = changed(SOIL, &[(POOLS, 0), (POOLS + 1, CEILING - 400_000)]);
+    let gram = booked(2, [-60, 0, 0, 0, 0, 100_000_000, 0]);
+    let frost = |number: u64| booked(number, FROST);
+    let acts = [frost(1), gram, frost(2), BACK, gram, BACK, BACK];
+    told_on(sheet, full, &acts, &[(2, 17), (5, 17), (7, 20)]);
+    let mut acts = Vec::new();
+    let mut refused = Vec::new();
+    for month in 1..=26 {
+        let (number, place, value) = wrong[month % 7];
+        refused.push((acts.len() + 1, number));
+        acts.push(booked(month as u64, changed(MILD, &[(place, value)])));
+        acts.push(farm(month as u64));
+    }
+    acts.extend([BACK; 25]);
+    refused.push((acts.len(), 20));
+    told(sheet, &acts, &refused);
+}
+
+/// A list keeps the state before each of its months that ran.
+fn history_lists(sheet: &mut Sheet) {
+    sheet.group("H: lists keep their months one by one; refused at month j they have kept j - 1");
+    // A list and the same months one by one: all numbers are equal.
+    for months in [1, 2, 24, 25, 41] {
+        told(sheet, &[farm(1), listed(months, MILD)], &[]);
+        let by_list = end(sheet).to_vec();
+        let calls = (2..2 + months as u64).map(|number| booked(number, MILD));
+        told(sheet, &[vec![farm(1)], calls.collect()].concat(), &[]);
+        assert_eq!(end(sheet), by_list);
+    }
+    // In frost 100,000,000 g a month: 17 at month j.
+    let grow = [-60, 0, 0, 0, 0, 60_000_000, 40_000_000];
+    for (active, ran) in [(950_000_000, 0), (900_000_000, 1), (700_000_000, 3)] {
+        let soil = changed(SOIL, &pools([active, 0, 0, 0]));
+        let acts = [vec![listed(5, grow)], vec![BACK; ran + 1]];
+        told_on(sheet, soil, &acts.concat(), &[(1, 17), (ran + 2, 20)]);
+        // After another month, and again after what was taken back.
+        let acts = [
+            vec![booked(1, [-60, 0, 0, 0, 0, 0, 0]), listed(60, grow)],
+            vec![BACK; ran],
+            vec![listed(60, grow), BACK, listed(0, grow)],
+        ];
+        let list = 3 + ran;
+        told_on(
+            sheet,
+            soil,
+            &acts.concat(),
+            &[(2, 17), (list, 17), (list + 2, 3)],
+        );
+    }
+    // Refused with place 0, and at month 1: nothing is kept or lost.
+    let wrong = changed(MILD, &[(COVER, 2)]);
+    let acts = [farm(1), listed(0, MILD), listed(4, wrong), BACK, BACK];
+    told(sheet, &acts, &[(2, 3), (3, 15), (5, 20)]);
+    // 12: 119,988 months by spin-up, then a list refused at its 13th.
+    let empty = changed(SOIL, &pools([0; 4]));
+    let year = [-60, 0, 0, 0, 0, 100, 0];
+    let acts = [
+        vec![spun(9_999, year), listed(20, year), booked(120_001, year)],
+        vec![BACK, booked(120_000, FROST)],
+        vec![BACK; 13],
+    ];
+    told_on(sheet, empty, &acts.concat(), &[(2, 12), (3, 12), (18, 20)]);
+}
+
+/// A spin-up ends with none kept unless it is refused.
+fn history_spin_ups(sheet: &mut Sheet) {
+    sheet.group("H: a spin-up clears the kept count, settled or not; refused it leaves all");
+    let still = [-60, 0, 0, 0, 0, 0, 0];
+    let grows = [-60, 0, 0, 0, 0, 100, 0];
+    told(sheet, &farmed(1, 30), &[]);
+    let before = end(sheet).to_vec();
+    // Settled in the first year, unsettled after three.
+    for (entries, months) in [(still, 12), (grows, 36)] {
+        let acts = [
+            farmed(1, 3),
+            vec![spun(3, entries), BACK, farm(4 + months), BACK, BACK],
+        ];
+        told(sheet, &acts.concat(), &[(5, 20), (8, 20)]);
+        assert_eq!(end(sheet)[MONTHS], 3 + months);
+        // The places stay as the months before the spin-up left them.
+        told(
+            sheet,
+            &[farmed(1, 30), vec![spun(3, entries)]].concat(),
+            &[],
+        );
+        assert_eq!(end(sheet)[PLACES..], before[PLACES..]);
+    }
+    let wrong = changed(still, &[(EVAPORATION, -1)]);
+    let fills = [-60, 0, 0, 0, 0, 100_000_000, 0];
+    for (number, act) in [
+        (9, spun(0, still)),
+        (9, spun(10_001, still)),
+        (14, spun(2, wrong)),
+        (17, spun(2, fills)),
+    ] {
+        let acts = [farmed(1, 3), vec![act, BACK, act, BACK, BACK, BACK]].concat();
+        told(sheet, &acts, &[(4, number), (6, number), (9, 20)]);
+    }
+    // With decay, and months kept afresh after it.
+    let acts = [
+        farmed(1, 2),
+        vec![spun(2, MILD)],
+        farmed(27, 29),
+        vec![BACK; 4],
+    ]
+    .concat();
+    told(sheet, &acts, &[(10, 20)]);
+}
+
+/// Drawn histories of all kinds of acts, refused ones among them.
+fn history_drawn(sheet: &mut Sheet) {
+    sheet.group("H: drawn histories of months, lists, spin-ups and takings-back");
+    let mut draw = Draw::new(89);
+    let mut made = 0;
+    while made < 14 {
+        let state = drawn_state(&mut draw, 60_000);
+        let soil = std::array::from_fn(|index| state[index]);
+        let acts = drawn_acts(&mut draw, soil);
+        made += usize::from(sheet.runs_if_fixed(history(soil, &acts)));
+    }
+}
+
+/// Acts of all kinds; most months have the number that is next.
+fn drawn_acts(draw: &mut Draw, soil: SoilNumbers) -> Vec<Act> {
+    let mut state = new_state(soil);
+    let mut acts: Vec<Act> = Vec::new();
+    for _ in 0..12 + draw.below(20) {
+        let mut entries = drawn_entries(draw);
+        entries[SOURCE] = draw.between(0, 1);
+        if draw.below(10) == 0 {
+            entries[draw.below(7) as usize] = -401;
+        }
+        let next = state[MONTHS] + 1;
+        let more = match draw.below(20) {
+            0..=2 => vec![listed(draw.below(30) as usize, entries)],
+            3 => vec![spun(draw.below(3), entries)],
+            4 => vec![booked(next ^ 1, entries)],
+            5..=9 => vec![BACK; 1 + draw.below(4) as usize],
+            // One more than are kept.
+            10 if state[KEPT] < 8 => vec![BACK; state[KEPT] as usize + 1],
+            _ => vec![booked(next, entries)],
+        };
+        for act in &more {
+            act.make(&mut state, FILL, &mut Nearest, &mut |_, _| ());
+        }
+        acts.extend(more);
+    }
+    acts.truncate(MOST_ACTS);
+    acts
 }
 
 // ---- T: a weather office's table ----
@@ -2231,8 +2881,8 @@ mod tests {
         let answered = |line: &&Line| line.call.answer_line(&line.answer).len() + 1;
         let output: usize = lines.iter().map(answered).sum();
         assert!(lines.len() >= 3_800, "{} lines", lines.len());
-        assert!(input < 800_000, "{input} bytes in");
-        assert!(output < 900_000, "{output} bytes out");
+        assert!(input < 850_000, "{input} bytes in");
+        assert!(output < 2_000_000, "{output} bytes out");
         // Every refusal that a call can meet is there, and the limits of the format are kept.
         let mut seen = std::collections::BTreeSet::new();
         for line in &lines {
@@ -2253,11 +2903,14 @@ mod tests {
                 assert!(*room <= 4_900 && table.len() <= 25_000);
             }
         }
-        let wanted: [(char, &[u64]); 5] = [
+        let wanted: [(char, &[u64]); 7] = [
             ('N', &[0, 4, 5, 6, 7]),
             ('M', &[0, 4, 5, 6, 7, 10, 11, 12, 13, 14, 19, 15, 16, 17]),
             ('L', &[0, 3, 4, 5, 6, 7, 8, 10, 12, 13, 14, 19, 15, 16, 17]),
             ('S', &[0, 3, 4, 5, 6, 7, 9, 10, 12, 13, 14, 19, 15, 16, 17]),
+            ('B', &[0, 10, 20]),
+            // The new state's number; the acts' follow it.
+            ('H', &[0, 4, 7]),
             ('T', &[0, 3, 8, 13, 14, 18]),
         ];
         let wanted = wanted

@@ -2,30 +2,47 @@
 //!
 //! | line | the call | its answer |
 //! |---|---|---|
-//! | `N` soil(8) | a soil's new state | number, the 11 of the lent state |
-//! | `M` state(11) number entries(7) | a single month call | number, the 7 of the lent row, the 11 of the state |
-//! | `L` w weather(w) l land(l) o state(11) | a list with an output of o numbers | number, place, the 11 of the state, the o of the output |
-//! | `S` w weather(w) l land(l) years state(11) | a spin-up | number, settled, years run or place, the 11 of the state |
+//! | `N` soil(8) | a soil's new state | number, the 12 of the lent state |
+//! | `M` state(12) number entries(7) | a single month call | number, the 7 of the lent row, the 12 of the state |
+//! | `L` w weather(w) l land(l) o state(12) | a list with an output of o numbers | number, place, the 12 of the state, the o of the output |
+//! | `S` w weather(w) l land(l) years state(12) | a spin-up | number, settled, years run or place, the 12 of the state |
+//! | `B` state(12) base(11) | a taking-back | number, the 12 of the state |
+//! | `H` soil(8) n acts(n) | a history: a new state, then acts on it | the new state's number, each act's, all 276 of the state |
 //! | `T` room length | a table, with an output of room numbers | number, rows, place, the room of the output |
 //! | `D` n pool s | a survival number | 1 where it is at most 1 from s, else 0 |
 //!
 //! soil: clay, depth, kind, DPM, RPM, BIO, HUM, IOM. state: these 8, deficit, months done, CO2 to
-//! date. entries: a weather row and a land row. weather row: temperature, rain, evaporation, source
-//! (0 open pan, 1 evapotranspiration). land row: cover, plant, manure. row: the five pools, the
-//! month's CO2, deficit. number: the refusal's, 0 where nothing is refused. A table's bytes follow
-//! its line, exactly as many as its length says, and one byte 10 follows them.
+//! date, kept count; a lent state has 24 places of 11 numbers more, for kept states. Before a call
+//! they hold 7 as all memory does that a call writes, but for a taking-back: there place p (from 0)
+//! holds base + p, a sum that may wrap. entries: a weather row and a land row. weather row:
+//! temperature, rain, evaporation, source (0 open pan, 1 evapotranspiration). land row: cover,
+//! plant, manure. row: the five pools, the month's CO2, deficit. number: the refusal's, 0 where
+//! nothing is refused. A table's bytes follow its line, exactly as many as its length says, and one
+//! byte 10 follows them.
+//!
+//! An act is nine numbers: 0 for a taking-back, with eight zeros; 1 for a month, 2 for a list, 3
+//! for a spin-up, with the month's number, the list's land rows or the years, and the entries. A
+//! list's land rows are all alike and its weather row is one; a spin-up has twelve of each.
 
 use crate::exponential::survival_range;
 use crate::fixed::month_fixed;
+use crate::memory;
 use crate::model::{
-    check_call, list_watched, month, spin_up_watched, Entries, Nearest, Refusal, Soil, Spun, State,
-    Survival, Watch, LAND_NUMBERS, OUTPUT_NUMBERS, RATES, WEATHER_NUMBERS,
+    Entries, Nearest, Refusal, Soil, Spun, State, Survival, Watch, KEPT_LIMIT, LAND_NUMBERS,
+    OUTPUT_NUMBERS, RATES, WEATHER_NUMBERS,
 };
 use crate::table;
 
 pub const SOIL_NUMBERS: usize = 8;
-pub const STATE_NUMBERS: usize = 11;
+/// A state itself, current or kept.
+pub const OWN_NUMBERS: usize = 11;
+/// A lent state: itself, the kept count, the places.
+pub const STATE_NUMBERS: usize = PLACES + KEPT_LIMIT * OWN_NUMBERS;
 pub const ENTRY_NUMBERS: usize = WEATHER_NUMBERS + LAND_NUMBERS;
+/// Kind, number, entries.
+pub const ACT_NUMBERS: usize = 2 + ENTRY_NUMBERS;
+/// Most acts of a history's line.
+pub const MOST_ACTS: usize = 80;
 
 /// Numbers of a table's answer before its output: the refusal's number, rows, place.
 const TABLE_HEAD: usize = 3;
@@ -34,6 +51,7 @@ const TABLE_HEAD: usize = 3;
 pub const FILL: u64 = 7;
 
 pub type SoilNumbers = [u64; SOIL_NUMBERS];
+pub type OwnNumbers = [u64; OWN_NUMBERS];
 pub type StateNumbers = [u64; STATE_NUMBERS];
 pub type EntryNumbers = [i64; ENTRY_NUMBERS];
 pub type WeatherRow = [i64; WEATHER_NUMBERS];
@@ -49,6 +67,10 @@ pub const INERT: usize = 7;
 pub const DEFICIT: usize = 8;
 pub const MONTHS: usize = 9;
 pub const CO2: usize = 10;
+/// The kept count.
+pub const KEPT: usize = 11;
+/// The first number of the first place.
+pub const PLACES: usize = 12;
 
 /// Places in the entries; the first four also in a weather row.
 pub const TEMPERATURE: usize = 0;
@@ -69,7 +91,8 @@ pub fn soil_of(numbers: &[u64]) -> Soil {
     }
 }
 
-pub fn state_of(numbers: &StateNumbers) -> State {
+/// The state in the first eleven of these numbers.
+pub fn state_of(numbers: &[u64]) -> State {
     State {
         soil: soil_of(numbers),
         deficit: numbers[DEFICIT] as i128,
@@ -78,7 +101,7 @@ pub fn state_of(numbers: &StateNumbers) -> State {
     }
 }
 
-pub fn numbers_of(state: &State) -> StateNumbers {
+pub fn numbers_of(state: &State) -> OwnNumbers {
     let soil = &state.soil;
     let whole = |number: i128| u64::try_from(number).expect("a number that was lent");
     [
@@ -108,6 +131,82 @@ pub fn entries_of(numbers: &EntryNumbers) -> Entries {
     }
 }
 
+/// A lent state with these numbers and this kept count, the places filled.
+pub const fn lent_state(own: OwnNumbers, kept: u64) -> StateNumbers {
+    let mut numbers = [FILL; STATE_NUMBERS];
+    let mut index = 0;
+    while index < OWN_NUMBERS {
+        numbers[index] = own[index];
+        index += 1;
+    }
+    numbers[KEPT] = kept;
+    numbers
+}
+
+/// One act of a history.
+#[derive(Clone, Copy, Debug, PartialEq, Eq)]
+pub enum Act {
+    TakeBack,
+    Month {
+        number: u64,
+        entries: EntryNumbers,
+    },
+    List {
+        months: usize,
+        entries: EntryNumbers,
+    },
+    SpinUp {
+        years: u64,
+        entries: EntryNumbers,
+    },
+}
+
+impl Act {
+    pub fn numbers(&self) -> [i128; ACT_NUMBERS] {
+        let (kind, number, entries) = match *self {
+            Act::TakeBack => (0, 0, [0; ENTRY_NUMBERS]),
+            Act::Month { number, entries } => (1, number, entries),
+            Act::List { months, entries } => (2, months as u64, entries),
+            Act::SpinUp { years, entries } => (3, years, entries),
+        };
+        std::array::from_fn(|index| match index {
+            0 => kind,
+            1 => number as i128,
+            _ => entries[index - 2] as i128,
+        })
+    }
+
+    /// The number that it returns; other memory that it writes holds `fill` before it.
+    pub fn make(
+        &self,
+        state: &mut StateNumbers,
+        fill: u64,
+        survival: &mut dyn Survival,
+        watch: Watch,
+    ) -> u64 {
+        match self {
+            Act::TakeBack => refusal(&memory::take_back(state)).0,
+            Act::Month { number, entries } => {
+                refusal(&memory::month(state, *number, entries, survival, watch)).0
+            }
+            Act::List { months, entries } => {
+                let (sky, land) = (&entries[..WEATHER_NUMBERS], &entries[WEATHER_NUMBERS..]);
+                let mut rows = vec![fill; months * OUTPUT_NUMBERS];
+                let land = land.repeat(*months);
+                refusal(&memory::list(state, sky, &land, &mut rows, survival, watch)).0
+            }
+            Act::SpinUp { years, entries } => {
+                let (sky, land) = (&entries[..WEATHER_NUMBERS], &entries[WEATHER_NUMBERS..]);
+                let (sky, land) = (sky.repeat(12), land.repeat(12));
+                refusal(&memory::spin_up(
+                    state, &sky, &land, *years, survival, watch,
+                ))
+                .0
+            }
+        }
+    }
+}
+
 #[derive(Clone, Debug, PartialEq, Eq)]
 pub enum Call {
     New {
@@ -131,6 +230,13 @@ pub enum Call {
         years: u64,
         state: StateNumbers,
     },
+    TakeBack {
+        state: StateNumbers,
+    },
+    History {
+        soil: SoilNumbers,
+        acts: Vec<Act>,
+    },
     Table {
         /// Numbers of the lent output.
         room: usize,
@@ -149,7 +255,7 @@ fn words<T: ToString>(numbers: &[T]) -> String {
 }
 
 /// A list's length and numbers.
-fn counted(numbers: &[i64]) -> String {
+fn counted<T: ToString>(numbers: &[T]) -> String {
     let mut text = numbers.len().to_string();
     for number in numbers {
         text.push(' ');
@@ -166,7 +272,65 @@ fn refusal<T>(answer: &Result<T, Refusal>) -> (u64, u64) {
     }
 }
 
+/// What a line says of a lent state.
+fn said(state: &StateNumbers) -> &[u64] {
+    &state[..PLACES]
+}
+
 impl Call {
+    pub fn name(&self) -> &'static str {
+        match self {
+            Call::New { .. } => "new state",
+            Call::Month { .. } => "month",
+            Call::List { .. } => "list",
+            Call::SpinUp { .. } => "spin-up",
+            Call::TakeBack { .. } => "taking-back",
+            Call::History { .. } => "history",
+            Call::Table { .. } => "table",
+            Call::Survival { .. } => "survival",
+        }
+    }
+
+    /// The lent state, where a call is lent one.
+    pub fn state(&self) -> Option<&StateNumbers> {
+        match self {
+            Call::Month { state, .. }
+            | Call::List { state, .. }
+            | Call::SpinUp { state, .. }
+            | Call::TakeBack { state } => Some(state),
+            _ => None,
+        }
+    }
+
+    /// Where the state begins in the answer, if it has one.
+    pub fn state_at(&self) -> Option<usize> {
+        match self {
+            Call::New { .. } | Call::TakeBack { .. } => Some(1),
+            Call::Month { .. } => Some(1 + OUTPUT_NUMBERS),
+            Call::List { .. } => Some(2),
+            Call::SpinUp { .. } => Some(3),
+            Call::History { acts, .. } => Some(1 + acts.len()),
+            Call::Table { .. } | Call::Survival { .. } => None,
+        }
+    }
+
+    /// Does the line say all? It doesn't say the places of a lent state.
+    pub fn is_said(&self) -> bool {
+        let base = |index: usize| match self {
+            Call::TakeBack { state } => {
+                let first = state[PLACES + index % OWN_NUMBERS];
+                first.wrapping_add((index / OWN_NUMBERS) as u64)
+            }
+            _ => FILL,
+        };
+        match self {
+            Call::History { acts, .. } => acts.len() <= MOST_ACTS,
+            _ => self.state().is_none_or(|state| {
+                (0..STATE_NUMBERS - PLACES).all(|index| state[PLACES + index] == base(index))
+            }),
+        }
+    }
+
     /// The call's line, without byte 10 and without a table's bytes.
     pub fn line(&self) -> String {
         match self {
@@ -175,7 +339,7 @@ impl Call {
                 state,
                 number,
                 entries,
-            } => format!("M {} {number} {}", words(state), words(entries)),
+            } => format!("M {} {number} {}", words(said(state)), words(entries)),
             Call::List {
                 weather,
                 land,
@@ -185,7 +349,7 @@ impl Call {
                 "L {} {} {output} {}",
                 counted(weather),
                 counted(land),
-                words(state)
+                words(said(state))
             ),
             Call::SpinUp {
                 weather,
@@ -196,8 +360,16 @@ impl Call {
                 "S {} {} {years} {}",
                 counted(weather),
                 counted(land),
-                words(state)
+                words(said(state))
             ),
+            Call::TakeBack { state } => {
+                let base = &state[PLACES..PLACES + OWN_NUMBERS];
+                format!("B {} {}", words(said(state)), words(base))
+            }
+            Call::History { soil, acts } => {
+                let acts: Vec<i128> = acts.iter().flat_map(Act::numbers).collect();
+                format!("H {} {}", words(soil), counted(&acts))
+            }
             Call::Table { room, table } => format!("T {room} {}", table.len()),
             Call::Survival { n, pool, s } => format!("D {n} {pool} {s}"),
         }
@@ -216,7 +388,7 @@ impl Call {
     }
 
     /// The line of an answer to this call, without byte 10. The numbers of a table's output are
-    /// signed.
+    /// signed. The places of a state stand only in a history's.
     pub fn answer_line(&self, answer: &[u64]) -> String {
         match self {
             Call::Table { .. } => {
@@ -225,7 +397,12 @@ impl Call {
                 let head = head.iter().map(|number| i128::from(*number));
                 words(&head.chain(output).collect::<Vec<i128>>())
             }
-            _ => words(answer),
+            Call::History { .. } | Call::Survival { .. } => words(answer),
+            _ => {
+                let at = self.state_at().expect("all others have a state");
+                let (head, rest) = answer.split_at(at + PLACES);
+                words(&[head, &rest[STATE_NUMBERS - PLACES..]].concat())
+            }
         }
     }
 
@@ -234,25 +411,19 @@ impl Call {
     pub fn answer(&self, fill: u64, survival: &mut dyn Survival, watch: Watch) -> Vec<u64> {
         match self {
             Call::New { soil } => {
-                let soil = soil_of(soil);
-                match soil.check() {
-                    Ok(()) => [&[0], &numbers_of(&State::new(soil))[..]].concat(),
-                    Err(cause) => [&[cause.number() as u64], &[fill; STATE_NUMBERS][..]].concat(),
-                }
+                let mut state = [fill; STATE_NUMBERS];
+                let answer = memory::start(&mut state, soil);
+                [&[refusal(&answer).0], &state[..]].concat()
             }
             Call::Month {
                 state,
                 number,
                 entries,
             } => {
-                let (state, entries) = (state_of(state), entries_of(entries));
-                let number = *number as i128;
-                if check_call(&state, number, &entries).is_ok() {
-                    watch(&state, &entries);
-                }
-                let (next, answer) = month(&state, number, &entries, survival);
+                let mut state = *state;
+                let answer = memory::month(&mut state, *number, entries, survival, watch);
                 let row = answer.unwrap_or([fill; OUTPUT_NUMBERS]);
-                [&[refusal(&answer).0], &row[..], &numbers_of(&next)].concat()
+                [&[refusal(&answer).0], &row[..], &state].concat()
             }
             Call::List {
                 weather,
@@ -260,12 +431,10 @@ impl Call {
                 output,
                 state,
             } => {
-                let mut rows = vec![fill; *output];
-                let state = state_of(state);
-                let (next, answer) =
-                    list_watched(&state, weather, land, &mut rows, survival, watch);
+                let (mut state, mut rows) = (*state, vec![fill; *output]);
+                let answer = memory::list(&mut state, weather, land, &mut rows, survival, watch);
                 let (number, place) = refusal(&answer);
-                [&[number, place], &numbers_of(&next)[..], &rows].concat()
+                [&[number, place], &state[..], &rows].concat()
             }
             Call::SpinUp {
                 weather,
@@ -273,16 +442,29 @@ impl Call {
                 years,
                 state,
             } => {
-                let state = state_of(state);
-                let (next, answer) =
-                    spin_up_watched(&state, weather, land, *years as i128, survival, watch);
+                let mut state = *state;
+                let answer = memory::spin_up(&mut state, weather, land, *years, survival, watch);
                 let (number, place) = refusal(&answer);
                 let (settled, years) = match answer {
                     Ok(Spun::Settled(years)) => (1, years),
                     Ok(Spun::Unsettled(years)) => (0, years),
                     Err(_) => (0, place),
                 };
-                [&[number, settled, years], &numbers_of(&next)[..]].concat()
+                [&[number, settled, years], &state[..]].concat()
+            }
+            Call::TakeBack { state } => {
+                let mut state = *state;
+                let answer = memory::take_back(&mut state);
+                [&[refusal(&answer).0], &state[..]].concat()
+            }
+            Call::History { soil, acts } => {
+                let mut state = [fill; STATE_NUMBERS];
+                let mut answer = vec![refusal(&memory::start(&mut state, soil)).0];
+                for act in acts {
+                    answer.push(act.make(&mut state, fill, survival, watch));
+                }
+                answer.extend(state);
+                answer
             }
             Call::Table { room, table } => {
                 let mut output = vec![fill as i64; *room];
@@ -317,6 +499,8 @@ impl Call {
 #[cfg(test)]
 mod tests {
     use super::*;
+    use crate::model::{month, Field};
+    use crate::vectors::Draw;
 
     fn text(call: &Call) -> (String, String, bool) {
         let (answer, fixed) = call.fixed_answer();
@@ -328,13 +512,14 @@ mod tests {
         let soil = [
             234, 23, 1, 153_300, 4_485_200, 667_100, 25_857_600, 2_700_000,
         ];
-        let mut state = [0; STATE_NUMBERS];
-        state[..SOIL_NUMBERS].copy_from_slice(&soil);
+        let mut own = [0; OWN_NUMBERS];
+        own[..SOIL_NUMBERS].copy_from_slice(&soil);
+        let state = lent_state(own, 0);
         assert_eq!(
             text(&Call::New { soil }),
             (
                 "N 234 23 1 153300 4485200 667100 25857600 2700000".into(),
-                "0 234 23 1 153300 4485200 667100 25857600 2700000 0 0 0".into(),
+                "0 234 23 1 153300 4485200 667100 25857600 2700000 0 0 0 0".into(),
                 true
             )
         );
@@ -346,10 +531,10 @@ mod tests {
                 entries: [34, 740, 80, 0, 0, 0, 0]
             }),
             (
-                "M 234 23 1 153300 4485200 667100 25857600 2700000 0 0 0 1 34 740 80 0 0 0 0"
+                "M 234 23 1 153300 4485200 667100 25857600 2700000 0 0 0 0 1 34 740 80 0 0 0 0"
                     .into(),
                 "0 113937 4445447 665104 25855106 2700000 83606 0 \
-                 234 23 1 113937 4445447 665104 25855106 2700000 0 1 83606"
+                 234 23 1 113937 4445447 665104 25855106 2700000 0 1 83606 1"
                     .into(),
                 true
             )
@@ -359,12 +544,13 @@ mod tests {
                 weather: vec![34, 740, 60, 1],
                 land: vec![0, 0, 0, 2, 0, 0],
                 output: 15,
-                state
+                state: lent_state(own, 23)
             }),
             (
-                "L 4 34 740 60 1 6 0 0 0 2 0 0 15 234 23 1 153300 4485200 667100 25857600 2700000 0 0 0"
+                "L 4 34 740 60 1 6 0 0 0 2 0 0 15 \
+                 234 23 1 153300 4485200 667100 25857600 2700000 0 0 0 23"
                     .into(),
-                "15 2 234 23 1 113937 4445447 665104 25855106 2700000 0 1 83606 \
+                "15 2 234 23 1 113937 4445447 665104 25855106 2700000 0 1 83606 24 \
                  113937 4445447 665104 25855106 2700000 83606 0 7 7 7 7 7 7 7 7"
                     .into(),
                 true
@@ -375,11 +561,55 @@ mod tests {
                 weather: vec![],
                 land: vec![-1],
                 years: 3,
-                state: [9; 11]
+                state: lent_state([9; 11], 25)
             }),
             (
-                "S 0 1 -1 3 9 9 9 9 9 9 9 9 9 9 9".into(),
-                "3 0 0 9 9 9 9 9 9 9 9 9 9 9".into(),
+                "S 0 1 -1 3 9 9 9 9 9 9 9 9 9 9 9 25".into(),
+                "3 0 0 9 9 9 9 9 9 9 9 9 9 9 25".into(),
+                true
+            )
+        );
+        // Place (5 + 23) mod 24 is 4; the last sum wraps.
+        let mut state = lent_state([9, 9, 9, 9, 9, 9, 9, 9, 9, 5, 9], 24);
+        for index in 0..KEPT_LIMIT * OWN_NUMBERS {
+            let base = [0, 1, 2, 3, 4, 5, 6, 7, 8, 100, u64::MAX - 3][index % OWN_NUMBERS];
+            state[PLACES + index] = base.wrapping_add((index / OWN_NUMBERS) as u64);
+        }
+        assert_eq!(
+            text(&Call::TakeBack { state }),
+            (
+                "B 9 9 9 9 9 9 9 9 9 5 9 24 0 1 2 3 4 5 6 7 8 100 18446744073709551612".into(),
+                "0 4 5 6 7 8 9 10 11 12 104 0 23".into(),
+                true
+            )
+        );
+        assert!(Call::TakeBack { state }.is_said());
+        state[STATE_NUMBERS - 1] ^= 1;
+        assert!(!Call::TakeBack { state }.is_said());
+        let entries = [34, 740, 80, 0, 0, 0, 0];
+        let history = Call::History {
+            soil,
+            acts: vec![
+                Act::Month { number: 1, entries },
+                Act::Month { number: 1, entries },
+                Act::TakeBack,
+                Act::TakeBack,
+                Act::List { months: 0, entries },
+                Act::SpinUp { years: 0, entries },
+            ],
+        };
+        let new = "234 23 1 153300 4485200 667100 25857600 2700000 0 0 0";
+        assert_eq!(
+            text(&history),
+            (
+                "H 234 23 1 153300 4485200 667100 25857600 2700000 54 \
+                 1 1 34 740 80 0 0 0 0 1 1 34 740 80 0 0 0 0 0 0 0 0 0 0 0 0 0 0 0 0 0 0 0 0 0 0 \
+                 2 0 34 740 80 0 0 0 0 3 0 34 740 80 0 0 0 0"
+                    .into(),
+                format!(
+                    "0 0 11 0 20 3 9 {new} 0 {new}{}",
+                    " 7".repeat(23 * OWN_NUMBERS)
+                ),
                 true
             )
         );
@@ -400,5 +630,146 @@ mod tests {
         );
         assert_eq!(s(1_000_000_002).1, "0");
         assert_eq!(s(u64::MAX).1, "0");
+    }
+
+    /// The places hold what the paper's list of kept states does, on drawn histories from a new
+    /// state; and the months that remain, run alone, end in the same state.
+    #[test]
+    fn places_and_the_list_agree() {
+        let mut draw = Draw::new(2602);
+        let mut seen = std::collections::BTreeMap::new();
+        for round in 0..300 {
+            let soil = [draw.below(1001), 1 + draw.below(100), 1 + draw.below(3)];
+            let pools: [u64; 5] = std::array::from_fn(|_| draw.below(200_000_000));
+            let soil: SoilNumbers = std::array::from_fn(|index| match index {
+                0..=2 => soil[index],
+                _ => pools[index - 3],
+            });
+            let mut memory: StateNumbers = std::array::from_fn(|_| draw.next());
+            memory::start(&mut memory, &soil).expect("an accepted soil");
+            let mut field = Field::new(soil_of(&soil));
+            // The state before the months that remain: the new one, or a spin-up's.
+            let mut first = field.state.clone();
+            let mut remain: Vec<Entries> = Vec::new();
+            for _ in 0..120 {
+                let mut entries = [
+                    draw.between(-60, 300),
+                    draw.between(0, 900),
+                    draw.between(0, 1_200),
+                    draw.between(0, 1),
+                    draw.between(0, 1),
+                    draw.between(0, 3_000_000),
+                    draw.between(0, 3_000_000),
+                ];
+                if draw.below(8) == 0 {
+                    entries[draw.below(7) as usize] = -401;
+                }
+                let act = match draw.below(16) {
+                    0..=3 => Act::Month {
+                        number: memory[MONTHS] + 1 + draw.below(6) / 5,
+                        entries,
+                    },
+                    4 => Act::List {
+                        months: draw.below(40) as usize,
+                        entries,
+                    },
+                    5 if round % 2 == 0 => Act::SpinUp {
+                        years: draw.below(3),
+                        entries,
+                    },
+                    _ => Act::TakeBack,
+                };
+                let sky = &entries[..WEATHER_NUMBERS];
+                let land = &entries[WEATHER_NUMBERS..];
+                let mut rows = vec![FILL; 40 * OUTPUT_NUMBERS];
+                let before = field.state.months;
+                let wanted = match act {
+                    Act::TakeBack => match field.take_back() {
+                        Ok(()) => {
+                            remain.pop().expect("a month that remains");
+                            0
+                        }
+                        Err(cause) => cause.number() as u64,
+                    },
+                    Act::Month { number, entries } => {
+                        let own = entries_of(&entries);
+                        refusal(&field.month(number as i128, &own, &mut Nearest)).0
+                    }
+                    Act::List { months, .. } => {
+                        let land = land.repeat(months);
+                        refusal(&field.list(sky, &land, &mut rows, &mut Nearest)).0
+                    }
+                    Act::SpinUp { years, .. } => {
+                        let (sky, land) = (sky.repeat(12), land.repeat(12));
+                        let answer = field.spin_up(&sky, &land, years as i128, &mut Nearest);
+                        if answer.is_ok() {
+                            (first, remain) = (field.state.clone(), Vec::new());
+                        }
+                        refusal(&answer).0
+                    }
+                };
+                if matches!(act, Act::Month { .. } | Act::List { .. }) {
+                    let more = field.state.months - before;
+                    remain.extend((0..more).map(|_| entries_of(&entries)));
+                }
+                let given = act.make(&mut memory, FILL, &mut Nearest, &mut |_, _| ());
+                assert_eq!(given, wanted, "{act:?}");
+                assert_eq!(memory::field_of(&memory), field);
+                *seen.entry((act.numbers()[0], given)).or_insert(0) += 1;
+            }
+            let mut alone = first;
+            for entries in &remain {
+                let number = alone.months as i128 + 1;
+                let (next, answer) = month(&alone, number, entries, &mut Nearest);
+                answer.expect("accepted before");
+                alone = next;
+            }
+            assert_eq!(alone, field.state);
+        }
+        for wanted in [
+            (0, 0),
+            (0, 20),
+            (1, 0),
+            (1, 11),
+            (1, 13),
+            (2, 0),
+            (2, 3),
+            (3, 0),
+            (3, 9),
+        ] {
+            assert!(seen.contains_key(&wanted), "{wanted:?} {seen:?}");
+        }
+    }
+
+    /// Taking back: 20 before 10, nothing else asked, the place by the months done.
+    #[test]
+    fn taking_back() {
+        for (months, place) in [
+            (0, 23),
+            (1, 0),
+            (23, 22),
+            (24, 23),
+            (25, 0),
+            (120_000, 23),
+            // 2^64 is 16 over a multiple of 24.
+            (u64::MAX, 14),
+        ] {
+            let mut memory: StateNumbers = std::array::from_fn(|index| 1_000 + index as u64);
+            (memory[MONTHS], memory[KEPT]) = (months, 1);
+            let before = memory;
+            assert_eq!(memory::take_back(&mut memory), Ok(()));
+            let from = PLACES + place * OWN_NUMBERS;
+            assert_eq!(memory[..OWN_NUMBERS], before[from..from + OWN_NUMBERS]);
+            assert_eq!((memory[KEPT], &memory[PLACES..]), (0, &before[PLACES..]));
+            let restored = memory;
+            assert_eq!(refusal(&memory::take_back(&mut memory)), (20, 0));
+            assert_eq!(memory, restored);
+            for kept in [25, 26, 1 << 32, u64::MAX] {
+                memory[KEPT] = kept;
+                let given = memory;
+                assert_eq!(refusal(&memory::take_back(&mut memory)), (10, 0));
+                assert_eq!(memory, given);
+            }
+        }
     }
 }

@@ -7,18 +7,21 @@
 
 use crate::book::{self, Answer};
 use crate::calls::{
-    entries_of, soil_of, state_of, Call, EntryNumbers, LandRow, SoilNumbers, StateNumbers,
-    WeatherRow, CLAY, CO2, COVER, DEFICIT, DEPTH, ENTRY_NUMBERS, EVAPORATION, INERT, KIND, MANURE,
-    MONTHS, PLANT, POOLS, RAIN, SOIL_NUMBERS, SOURCE, STATE_NUMBERS, TEMPERATURE,
+    entries_of, soil_of, state_of, Act, Call, EntryNumbers, LandRow, SoilNumbers, StateNumbers,
+    WeatherRow, CLAY, CO2, COVER, DEFICIT, DEPTH, ENTRY_NUMBERS, EVAPORATION, INERT, KEPT, KIND,
+    MANURE, MONTHS, OWN_NUMBERS, PLACES, PLANT, POOLS, RAIN, SOIL_NUMBERS, SOURCE, STATE_NUMBERS,
+    TEMPERATURE,
 };
 use crate::exponential::{within, BILLION};
 use crate::fraction::Fraction;
+use crate::memory;
 use crate::model::{
-    Survival, EVAPOTRANSPIRATION, LAND_NUMBERS, MONTH_LIMIT, OPEN_PAN, OUTPUT_NUMBERS, RATES,
-    WEATHER_NUMBERS,
+    Field, Survival, EVAPOTRANSPIRATION, KEPT_LIMIT, LAND_NUMBERS, MONTH_LIMIT, OPEN_PAN,
+    OUTPUT_NUMBERS, RATES, WEATHER_NUMBERS,
 };
 use crate::recurrence::{
-    carbon_closes, distance_exact, q_highest, q_lowest, Call as Answered, Decision, Enclosure,
+    carbon_closes, demand_three, distance_exact, q_highest, q_lowest, Call as Answered, Decision,
+    DemandThree, Enclosure,
 };
 use crate::table;
 use crate::vectors::{vectors, Draw};
@@ -55,6 +58,7 @@ pub trait Program {
         years: u64,
         result: &mut [u64],
     ) -> u64;
+    fn take_back(&mut self, state: &mut [u64]) -> u64;
     /// `length`: of the text, also where `out` is too short for it (8).
     fn book(&mut self, book: &[u8], out: &mut [u8], length: &mut u64) -> u64;
     /// `rows`: how many were written; `place`: the line, 0 for 3 and 8 and where it was read.
@@ -73,8 +77,14 @@ pub struct Counts {
     pub tables: u64,
     /// Months by an open pan beside the same months by evapotranspiration.
     pub pairs: u64,
+    /// Calls in histories.
+    pub histories: u64,
+    /// Takings-back on any memory.
+    pub takings_back: u64,
     /// Accepted months of the long chain.
     pub chain: u64,
+    /// Acts of each long chain with takings-back.
+    pub taken_chain: u64,
 }
 
 impl Default for Counts {
@@ -86,7 +96,10 @@ impl Default for Counts {
             books: 10_000,
             tables: 24_000,
             pairs: 6_000,
+            histories: 60_000,
+            takings_back: 40_000,
             chain: MONTH_LIMIT,
+            taken_chain: 8_000,
         }
     }
 }
@@ -128,8 +141,8 @@ pub struct Differ<'a> {
     pub compared: u64,
     pub differ: u64,
     pub first: Vec<String>,
-    /// Calls by letter and number of their answer, to see that the draws reach everything.
-    pub seen: HashMap<(char, u64), u64>,
+    /// Calls by name and number of their answer, to see that the draws reach everything.
+    pub seen: HashMap<(&'static str, u64), u64>,
     /// Month calls by open pan, by evapotranspiration and by another source.
     pub sources: [u64; 3],
 }
@@ -242,6 +255,19 @@ pub fn program_answer(
             let number = program.spin_up(state.get(), weather, land, *years, result.get());
             Ok([&[number], result.take()?, state.take()?].concat())
         }
+        Call::TakeBack { state } => {
+            let mut state = Lent::new(state);
+            let number = program.take_back(state.get());
+            Ok([&[number], state.take()?].concat())
+        }
+        Call::History { soil, acts } => {
+            let mut state = Lent::filled(fill, STATE_NUMBERS);
+            let mut numbers = vec![program.start(soil, state.get())];
+            for act in acts {
+                numbers.push(program_act(program, act, &mut state, fill)?);
+            }
+            Ok([&numbers, state.take()?].concat())
+        }
         Call::Table { room, table } => {
             let mut weather = Lent::filled(fill as i64, *room);
             let (mut rows, mut place) = (Lent::filled(fill, 1), Lent::filled(fill, 1));
@@ -261,6 +287,41 @@ pub fn program_answer(
         Call::Survival { n, pool, s } => {
             let own = program.survival(*n, *pool as u64);
             Ok(vec![u64::from(own.abs_diff(*s) <= 1)])
+        }
+    }
+}
+
+/// The number that the other program returns for an act of a history.
+fn program_act(
+    program: &mut dyn Program,
+    act: &Act,
+    state: &mut Lent,
+    fill: u64,
+) -> Result<u64, String> {
+    let rows_of = |entries: &EntryNumbers, skies: usize, fields: usize| {
+        let (sky, field) = entries.split_at(WEATHER_NUMBERS);
+        (sky.repeat(skies), field.repeat(fields))
+    };
+    match act {
+        Act::TakeBack => Ok(program.take_back(state.get())),
+        Act::Month { number, entries } => {
+            let mut row = Lent::filled(fill, OUTPUT_NUMBERS);
+            let number = program.month(state.get(), *number, entries, row.get());
+            row.take().map(|_| number)
+        }
+        Act::List { months, entries } => {
+            let (weather, land) = rows_of(entries, 1, *months);
+            let mut rows = Lent::filled(fill, months * OUTPUT_NUMBERS);
+            let mut place = Lent::filled(fill, 1);
+            let at = &mut place.get()[0];
+            let number = program.list(state.get(), &weather, &land, rows.get(), at);
+            rows.take().and(place.take()).map(|_| number)
+        }
+        Act::SpinUp { years, entries } => {
+            let (weather, land) = rows_of(entries, 12, 12);
+            let mut result = Lent::filled(fill, 2);
+            let number = program.spin_up(state.get(), &weather, &land, *years, result.get());
+            result.take().map(|_| number)
         }
     }
 }
@@ -320,20 +381,25 @@ impl<'a> Differ<'a> {
         self.books(counts.books);
         self.tables(counts.tables);
         self.pairs(counts.pairs);
+        self.takings_back(counts.takings_back);
+        self.histories(counts.histories);
         self.wrong_lengths();
         self.short_chains();
         self.long_chain(counts.chain, Plan::Mixed);
         self.long_chain(counts.chain, Plan::Frost);
         self.long_chain(counts.chain, Plan::Thaw);
+        for plan in [Plan::Mixed, Plan::Frost, Plan::Thaw] {
+            self.taken_chain(counts.taken_chain, plan);
+        }
     }
 
     fn say(&mut self, text: String) {
         (self.progress)(&text);
     }
 
-    /// How often calls of this letter were answered with each number, the test lines among them.
-    fn answers(&self, letter: char) -> String {
-        let seen = self.seen.iter().filter(|((own, _), _)| *own == letter);
+    /// How often calls of this name were answered with each number, the test lines among them.
+    fn answers(&self, name: &str) -> String {
+        let seen = self.seen.iter().filter(|((own, _), _)| *own == name);
         let mut numbers: Vec<(u64, u64)> =
             seen.map(|((_, number), times)| (*number, *times)).collect();
         numbers.sort_unstable();
@@ -376,8 +442,7 @@ impl<'a> Differ<'a> {
             faults: &mut faults,
         };
         let wanted = call.answer(fill, &mut asked, &mut |_, _| ());
-        let letter = call.line().chars().next().unwrap();
-        *self.seen.entry((letter, wanted[0])).or_default() += 1;
+        *self.seen.entry((call.name(), wanted[0])).or_default() += 1;
         if let Call::Month { entries, .. } = call {
             let source = [OPEN_PAN, EVAPOTRANSPIRATION]
                 .iter()
@@ -391,17 +456,12 @@ impl<'a> Differ<'a> {
                 Err(text) => text.clone(),
             };
             format!(
-                "call:   {}\nfill:   {fill}\n{numbers}\nS:      {faults:?}",
-                shown(&call.input())
+                "call:   {}\nplaces: {:?}\nfill:   {fill}\n{numbers}\nS:      {faults:?}",
+                shown(&call.input()),
+                call.state().map(|state| &state[PLACES..])
             )
         });
-        let at = match call {
-            Call::New { .. } => 1,
-            Call::Month { .. } => 1 + OUTPUT_NUMBERS,
-            Call::List { .. } => 2,
-            Call::SpinUp { .. } => 3,
-            Call::Table { .. } | Call::Survival { .. } => return None,
-        };
+        let at = call.state_at()?;
         given
             .ok()
             .map(|given| std::array::from_fn(|index| given[at + index]))
@@ -409,10 +469,10 @@ impl<'a> Differ<'a> {
 
     /// The new state of an accepted soil, if the program gives the right one.
     fn new_state(&mut self, soil: SoilNumbers) -> Option<StateNumbers> {
-        let mut right = [0; STATE_NUMBERS];
+        let mut right = [0; PLACES];
         right[..SOIL_NUMBERS].copy_from_slice(&soil);
         self.call(&Call::New { soil })
-            .filter(|state| *state == right)
+            .filter(|state| state[..PLACES] == right)
     }
 
     // ---- Draws ----
@@ -481,14 +541,44 @@ impl<'a> Differ<'a> {
         ]
     }
 
-    /// A state that nothing refuses, reached by a run or not.
+    /// A state that nothing refuses, reached by a run or not, with anything in its places.
     fn state(&mut self) -> StateNumbers {
         let mut state = [0; STATE_NUMBERS];
+        self.own_numbers(&mut state);
+        state[KEPT] = match self.draw.below(4) {
+            0 => self.pick(&[0, 1, 23, 24]),
+            _ => self.draw.below(25),
+        };
+        self.places(&mut state);
+        state
+    }
+
+    /// What stands in the places: one number, anything, or states like this one.
+    fn places(&mut self, state: &mut StateNumbers) {
+        let fill = self.fill();
+        let (own, places) = state.split_at_mut(PLACES);
+        match self.draw.below(3) {
+            0 => places.fill(fill),
+            1 => places.fill_with(|| self.draw.next()),
+            _ => {
+                for (place, kept) in places.chunks_mut(OWN_NUMBERS).enumerate() {
+                    kept.copy_from_slice(&own[..OWN_NUMBERS]);
+                    // The months done of the state that a run would have left here.
+                    let back = own[MONTHS].wrapping_sub(place as u64) % KEPT_LIMIT as u64;
+                    kept[MONTHS] = kept[MONTHS].wrapping_sub(back);
+                    kept[CO2] /= 1 + back;
+                }
+            }
+        }
+    }
+
+    /// The eleven numbers of such a state itself.
+    fn own_numbers(&mut self, state: &mut StateNumbers) {
         state[..SOIL_NUMBERS].copy_from_slice(&self.soil());
         if self.draw.below(8) == 0 {
-            return state;
+            return;
         }
-        let limit = deficit_limit(&state);
+        let limit = deficit_limit(state);
         let point = (444 * limit).div_ceil(1000);
         let bare = limit / 9 * 5;
         state[DEFICIT] = match self.draw.below(4) {
@@ -509,9 +599,8 @@ impl<'a> Differ<'a> {
             0 => self.pick(&[0, 1, 11, 119_988, 119_998, 119_999]),
             _ => self.draw.below(MONTH_LIMIT),
         };
-        let most = 1_000_000_000 + 200_000_000 * state[MONTHS] - active(&state);
+        let most = 1_000_000_000 + 200_000_000 * state[MONTHS] - active(state);
         state[CO2] = self.sized(most);
-        state
     }
 
     fn weather(&mut self) -> WeatherRow {
@@ -603,10 +692,11 @@ impl<'a> Differ<'a> {
         }
     }
 
-    /// One number of a state made wild.
+    /// One number of a state made wild, the kept count among them.
     fn spoil_state(&mut self, state: &mut StateNumbers) {
-        let place = self.draw.below(STATE_NUMBERS as u64) as usize;
+        let place = self.draw.below(PLACES as u64) as usize;
         state[place] = match place {
+            KEPT => self.wild(&[KEPT_LIMIT as u64]),
             CLAY => self.wild(&[0, 1000]),
             DEPTH => self.wild(&[1, 100]),
             KIND => self.wild(&[1, 3]),
@@ -755,7 +845,7 @@ impl<'a> Differ<'a> {
         self.say(format!(
             "month calls: {count}, {chained} of them in chains; so far {pan} by open pan, \
              {office} by evapotranspiration, {other} by another source; {}",
-            self.answers('M')
+            self.answers("month")
         ));
     }
 
@@ -873,7 +963,7 @@ impl<'a> Differ<'a> {
                 state,
             });
         }
-        self.say(format!("lists: {count}; {}", self.answers('L')));
+        self.say(format!("lists: {count}; {}", self.answers("list")));
     }
 
     fn spin_ups(&mut self, count: u64) {
@@ -907,7 +997,7 @@ impl<'a> Differ<'a> {
                 state,
             });
         }
-        self.say(format!("spin-ups: {count}; {}", self.answers('S')));
+        self.say(format!("spin-ups: {count}; {}", self.answers("spin-up")));
     }
 
     // ---- Books ----
@@ -940,7 +1030,7 @@ impl<'a> Differ<'a> {
         let out = &mut given[margin..margin + room];
         let given_number = self.program.book(bytes, out, &mut length.get()[0]);
         let given_length = length.take().map(|numbers| numbers[0]);
-        *self.seen.entry(('B', wanted_number)).or_default() += 1;
+        *self.seen.entry(("book", wanted_number)).or_default() += 1;
         let same = given == wanted
             && given_number == wanted_number
             && given_length == Ok(text.len() as u64)
@@ -1347,7 +1437,7 @@ impl<'a> Differ<'a> {
         self.say(format!(
             "tables: {count}, {good} good and {damaged} damaged, {enough} with room enough and \
              {short} without; {}",
-            self.answers('T')
+            self.answers("table")
         ));
     }
 
@@ -1390,6 +1480,187 @@ impl<'a> Differ<'a> {
         ));
     }
 
+    // ---- Taking back ----
+
+    /// Takings-back on any memory at all.
+    fn takings_back(&mut self, count: u64) {
+        for _ in 0..count {
+            let mut state = self.state();
+            if self.draw.below(2) == 0 {
+                for index in 0..OWN_NUMBERS {
+                    if self.draw.below(3) == 0 {
+                        state[index] = self.wild(&[24, 1_000, 120_000]);
+                    }
+                }
+            }
+            match self.draw.below(4) {
+                0 => state[MONTHS] = self.draw.below(60),
+                1 => state[MONTHS] = self.wild(&[24, 120_000]),
+                2 => state[MONTHS] = self.draw.next(),
+                _ => (),
+            }
+            match self.draw.below(6) {
+                0 => state[KEPT] = 0,
+                1 => state[KEPT] = self.wild(&[24]),
+                2 => state[KEPT] = 1 + self.draw.below(25),
+                _ => (),
+            }
+            self.call(&Call::TakeBack { state });
+        }
+        self.say(format!(
+            "takings-back on any memory: {count}; {}",
+            self.answers("taking-back")
+        ));
+    }
+
+    /// Histories of months, lists, spin-ups and takings-back on one lent state, of all its numbers
+    /// each time. Where they begin with none kept, the paper's list of kept states is held against
+    /// the places too.
+    fn histories(&mut self, count: u64) {
+        let mut done = 0;
+        let mut kinds: HashMap<&'static str, u64> = HashMap::new();
+        let (mut begun, mut listed) = (0, 0);
+        while done < count {
+            let (start, length) = match self.draw.below(4) {
+                0 => {
+                    let soil = self.soil();
+                    (self.new_state(soil), 20 + self.draw.below(180))
+                }
+                // Any state: what it restores may be refused by all that follows.
+                _ => (Some(self.start()), 1 + self.draw.below(30)),
+            };
+            let Some(mut state) = start else { return };
+            self.places(&mut state);
+            let mut field = (state[KEPT] == 0).then(|| memory::field_of(&state));
+            begun += 1;
+            let mut backs = 0;
+            for _ in 0..length.min(count - done) {
+                if backs == 0 && self.draw.below(5) == 0 {
+                    backs = match self.draw.below(8) {
+                        0 => 20 + self.draw.below(10),
+                        _ => 1 + self.draw.below(4),
+                    };
+                }
+                let call = match backs {
+                    0 => self.act(&state),
+                    _ => Call::TakeBack { state },
+                };
+                backs = backs.saturating_sub(1);
+                *kinds.entry(call.name()).or_default() += 1;
+                done += 1;
+                let Some(next) = self.call(&call) else { return };
+                if let Some(field) = &mut field {
+                    self.act_on(field, &call);
+                    listed += 1;
+                    let same = next[KEPT] <= KEPT_LIMIT as u64 && memory::field_of(&next) == *field;
+                    self.outcome(same, || {
+                        format!(
+                            "history: {}\nlist: {field:?}\nnumbers: {next:?}",
+                            call.line()
+                        )
+                    });
+                }
+                state = next;
+            }
+        }
+        let mut kinds: Vec<String> = kinds
+            .iter()
+            .map(|(name, times)| format!("{name} {times}"))
+            .collect();
+        kinds.sort_unstable();
+        self.say(format!(
+            "histories: {begun} of {done} calls ({}), {listed} of them beside the list of kept \
+             states; {}",
+            kinds.join(", "),
+            self.answers("taking-back")
+        ));
+    }
+
+    /// A month, a list or a spin-up of few years on this state, some of them faulty.
+    fn act(&mut self, state: &StateNumbers) -> Call {
+        let state = *state;
+        let faulty = if self.draw.below(4) == 0 { 20 } else { 0 };
+        let largest = self.pick(&[1_000, 1_000_000, 10_000_000, 100_000_000]);
+        match self.draw.below(16) {
+            0..=2 => {
+                let months = match self.draw.below(12) {
+                    0 => self.pick(&[0, 1, 23, 24, 25]),
+                    _ => 1 + self.draw.below(40) as usize,
+                };
+                let skies = 1 + self.draw.below(14) as usize;
+                let weather = self.row_numbers(skies, faulty, true, 0);
+                let land = self.row_numbers(months, faulty, false, largest);
+                let short = usize::from(self.draw.below(20) == 0);
+                Call::List {
+                    weather,
+                    land,
+                    output: (months * OUTPUT_NUMBERS).saturating_sub(short),
+                    state,
+                }
+            }
+            3 => Call::SpinUp {
+                weather: self.row_numbers(12, faulty, true, 0),
+                land: self.row_numbers(12, faulty, false, largest),
+                years: match self.draw.below(8) {
+                    0 => self.pick(&[0, 10_001]),
+                    _ => 1 + self.draw.below(4),
+                },
+                state,
+            },
+            _ => {
+                let mut entries = self.entries(&state);
+                let mut number = state[MONTHS].wrapping_add(1);
+                match self.draw.below(12) {
+                    0 => self.spoil_entries(&state, &mut entries),
+                    1 => number = self.wild(&[number]),
+                    _ => (),
+                }
+                Call::Month {
+                    state,
+                    number,
+                    entries,
+                }
+            }
+        }
+    }
+
+    /// The same call on the paper's list of kept states.
+    fn act_on(&mut self, field: &mut Field, call: &Call) {
+        let mut asked = Asked {
+            program: &mut *self.program,
+            known: &mut self.known,
+            faults: &mut Vec::new(),
+        };
+        match call {
+            Call::Month {
+                number, entries, ..
+            } => {
+                let entries = entries_of(entries);
+                let _ = field.month(*number as i128, &entries, &mut asked);
+            }
+            Call::List {
+                weather,
+                land,
+                output,
+                ..
+            } => {
+                let _ = field.list(weather, land, &mut vec![0; *output], &mut asked);
+            }
+            Call::SpinUp {
+                weather,
+                land,
+                years,
+                ..
+            } => {
+                let _ = field.spin_up(weather, land, *years as i128, &mut asked);
+            }
+            Call::TakeBack { .. } => {
+                let _ = field.take_back();
+            }
+            _ => panic!("no act of a history"),
+        }
+    }
+
     // ---- Wrong lengths ----
 
     /// Lent memory of a fixed layout with another length: 100, and nothing written, whatever the
@@ -1406,13 +1677,15 @@ impl<'a> Differ<'a> {
             }
             let weather = self.row_numbers(rows_each.0, 20, true, 0);
             let land = self.row_numbers(rows_each.1, 20, false, 1_000);
-            for length in [0, 1, 2, 3, 5, 6, 7, 8, 9, 10, 11, 12, 13, 22, 100] {
+            for length in [
+                0, 1, 2, 3, 5, 6, 7, 8, 9, 10, 11, 12, 13, 22, 100, 264, 275, 276, 277, 552,
+            ] {
                 let numbers: Vec<u64> = state.iter().cycle().take(length).copied().collect();
                 let signed: Vec<i64> = entries.iter().cycle().take(length).copied().collect();
                 let number = state[MONTHS].wrapping_add(1);
                 let fill = self.draw.next();
                 // Which memory has the wrong length.
-                for which in 0..8 {
+                for which in 0..9 {
                     let right = match which {
                         0 => SOIL_NUMBERS,
                         3 => ENTRY_NUMBERS,
@@ -1442,6 +1715,7 @@ impl<'a> Differ<'a> {
                             program.list(given.get(), &weather, &land, rows.get(), place)
                         }
                         6 => program.spin_up(given.get(), &weather, &land, 2, result.get()),
+                        8 => program.take_back(given.get()),
                         _ => program.spin_up(own.get(), &weather, &land, 2, given.get()),
                     };
                     let same = answer == WRONG_LENGTH
@@ -1475,7 +1749,8 @@ impl<'a> Differ<'a> {
 
     // ---- Demand 3 ----
 
-    /// Chains of some 30 calls against the recurrence in fractions.
+    /// Chains of some 30 calls against the recurrence in fractions; months are taken back in every
+    /// second one.
     fn short_chains(&mut self) {
         for round in 0..30 {
             let soil = self.soil();
@@ -1491,17 +1766,26 @@ impl<'a> Differ<'a> {
                     1 => number = self.wild(&[number]),
                     _ => (),
                 }
-                let call = Call::Month {
-                    state,
-                    number,
-                    entries,
+                let call = match self.draw.below(6) {
+                    0 if round % 2 == 1 => Call::TakeBack { state },
+                    _ => Call::Month {
+                        state,
+                        number,
+                        entries,
+                    },
                 };
                 let Some(next) = self.call(&call) else { return };
-                // The number isn't among the results here: an accepted month adds 1.
-                answered.push(Answered {
-                    entries: entries_of(&entries),
-                    accepted: next[MONTHS] != state[MONTHS],
-                });
+                // The number isn't among the results here: an accepted month adds 1, and one that
+                // is taken back leaves the accepted calls.
+                if next[MONTHS] < state[MONTHS] {
+                    let latest = answered.iter().rposition(|call: &Answered| call.accepted);
+                    answered.remove(latest.expect("a month that remains"));
+                } else if matches!(call, Call::Month { .. }) {
+                    answered.push(Answered {
+                        entries: entries_of(&entries),
+                        accepted: next[MONTHS] != state[MONTHS],
+                    });
+                }
                 state = next;
             }
             let (soil, last) = (soil_of(&soil), state_of(&state));
@@ -1590,10 +1874,26 @@ impl<'a> Differ<'a> {
         entries
     }
 
-    /// Demand 3 on one list with so many accepted calls and refused ones among them: (a), and (b)
-    /// in rigorous intervals at hostile q: each pool 4 billionths up or down in all 16 ways, in the
-    /// direction that drives each pool further from the program's, at random, and all q at once.
-    fn long_chain(&mut self, length: u64, plan: Plan) {
+    /// The next call of a long chain, now and then one that is refused.
+    fn hostile_call(&mut self, state: &StateNumbers, plan: Plan) -> Call {
+        let mut entries = self.hostile_entries(state, plan);
+        let mut number = state[MONTHS].wrapping_add(1);
+        match self.draw.below(40) {
+            // In frost nothing makes room again: what is spoilt must be refused.
+            0 if matches!(plan, Plan::Frost) => entries[MANURE] = 1_000_000_000,
+            0 => self.spoil_entries(state, &mut entries),
+            1 => number = self.wild(&[number]),
+            _ => (),
+        }
+        Call::Month {
+            state: *state,
+            number,
+            entries,
+        }
+    }
+
+    /// The soil of a long chain.
+    fn full_soil(&mut self, plan: Plan) -> SoilNumbers {
         let mut soil = self.soil();
         let pools = match plan {
             Plan::Frost => [0, 985_000_000, 0, 0],
@@ -1604,6 +1904,100 @@ impl<'a> Differ<'a> {
         if matches!(plan, Plan::Frost) {
             soil[KIND] = 1;
         }
+        soil
+    }
+
+    /// Demand 3 on one list of so many acts, months taken back in it, a few at once or more than
+    /// are kept: it balances, stays near the recurrence and ends in the same state as the accepted
+    /// months that remain, run alone.
+    fn taken_chain(&mut self, acts: u64, plan: Plan) {
+        let soil = self.full_soil(plan);
+        let Some(mut state) = self.new_state(soil) else {
+            return;
+        };
+        let mut remain: Vec<EntryNumbers> = Vec::new();
+        let [mut taken, mut none_kept, mut backs] = [0u64; 3];
+        for act in 1..=acts {
+            if backs == 0 {
+                backs = match self.draw.below(300) {
+                    0..=19 => 1 + self.draw.below(4),
+                    20 => 20 + self.draw.below(10),
+                    _ => 0,
+                };
+            }
+            let call = match backs {
+                0 => self.hostile_call(&state, plan),
+                _ => Call::TakeBack { state },
+            };
+            backs = backs.saturating_sub(1);
+            let Some(next) = self.call(&call) else {
+                return;
+            };
+            match call {
+                Call::Month { entries, .. } if next[MONTHS] != state[MONTHS] => {
+                    remain.push(entries)
+                }
+                Call::TakeBack { .. } if next[KEPT] == state[KEPT] => none_kept += 1,
+                Call::TakeBack { .. } => {
+                    remain.pop();
+                    taken += 1;
+                }
+                _ => (),
+            }
+            state = next;
+            if act % 1_000 == 0 || act == acts || act < 60 {
+                self.remaining(soil, &remain, &state);
+            }
+        }
+        self.say(format!(
+            "chain with takings-back ({plan:?}): {acts} acts, {taken} months taken back, \
+             {none_kept} times none kept, {} months remain",
+            remain.len()
+        ));
+    }
+
+    /// Demand 3 on the months that remain, and they run alone by the program.
+    fn remaining(&mut self, soil: SoilNumbers, remain: &[EntryNumbers], state: &StateNumbers) {
+        let months = remain.len();
+        let calls: Vec<Answered> = remain
+            .iter()
+            .map(|entries| Answered {
+                entries: entries_of(entries),
+                accepted: true,
+            })
+            .collect();
+        let mut faults = Vec::new();
+        let mut asked = Asked {
+            program: &mut *self.program,
+            known: &mut self.known,
+            faults: &mut faults,
+        };
+        let demand = demand_three(&soil_of(&soil), &calls, &state_of(state), &mut asked);
+        let holds = DemandThree {
+            carbon_closes: true,
+            distance: Decision::Holds,
+        };
+        self.outcome(demand == holds && faults.is_empty(), || {
+            format!("{demand:?}, {months} months remain: {soil:?}, {state:?} {faults:?}")
+        });
+        let mut alone = [0; STATE_NUMBERS];
+        let mut answers = vec![self.program.start(&soil, &mut alone)];
+        for (number, entries) in (1..).zip(remain) {
+            let mut row = [0; OUTPUT_NUMBERS];
+            answers.push(self.program.month(&mut alone, number, entries, &mut row));
+        }
+        let accepted = answers.iter().all(|number| *number == 0);
+        let same = accepted && alone[..OWN_NUMBERS] == state[..OWN_NUMBERS];
+        self.outcome(same, || {
+            format!("{months} months that remain, alone: {alone:?}\nwith others: {state:?}")
+        });
+    }
+
+    /// Demand 3 on one list with so many accepted calls and refused ones among them: (a), and (b)
+    /// in rigorous intervals at hostile q: each pool 4 billionths up or down in all 16 ways, in the
+    /// direction that drives each pool further from the program's, at random, and all q at once.
+    fn long_chain(&mut self, length: u64, plan: Plan) {
+        let soil = self.full_soil(plan);
         let Some(mut state) = self.new_state(soil) else {
             return;
         };
@@ -1619,21 +2013,12 @@ impl<'a> Differ<'a> {
         // The largest distance a call, in thousandths of a gram, at one q and at every q.
         let mut largest = [0u128; 2];
         while accepted < length && refused_in_turn < 1_000 {
-            let mut entries = self.hostile_entries(&state, plan);
-            let mut number = state[MONTHS].wrapping_add(1);
-            match self.draw.below(40) {
-                // In frost nothing makes room again: what is spoilt must be refused.
-                0 if matches!(plan, Plan::Frost) => entries[MANURE] = 1_000_000_000,
-                0 => self.spoil_entries(&state, &mut entries),
-                1 => number = self.wild(&[number]),
-                _ => (),
-            }
-            let Some(next) = self.call(&Call::Month {
-                state,
-                number,
-                entries,
-            }) else {
+            let call = self.hostile_call(&state, plan);
+            let Some(next) = self.call(&call) else {
                 return;
+            };
+            let Call::Month { entries, .. } = call else {
+                unreachable!()
             };
             let entries = entries_of(&entries);
             let took = next[MONTHS] != state[MONTHS];
@@ -1795,7 +2180,7 @@ mod tests {
 
     impl Program for Own {
         fn start(&mut self, soil: &[u64], state: &mut [u64]) -> u64 {
-            let (Ok(soil), 11) = (soil.try_into(), state.len()) else {
+            let (Ok(soil), STATE_NUMBERS) = (soil.try_into(), state.len()) else {
                 return WRONG_LENGTH;
             };
             let answer = self.answer(&Call::New { soil });
@@ -1836,6 +2221,12 @@ mod tests {
             if self.slip == "refused row" && answer[0] == 17 {
                 row[0] = lent[POOLS];
             }
+            if self.slip == "refused month kept" && answer[0] == 13 {
+                state[memory::place(lent[MONTHS])].copy_from_slice(&lent[..OWN_NUMBERS]);
+            }
+            if self.slip == "25 kept" && answer[0] == 0 && lent[KEPT] == 24 {
+                state[KEPT] = 25;
+            }
             if self.slip == "order" && answer[0] == 11 && lent[MONTHS] == 120_000 {
                 return 12;
             }
@@ -1860,8 +2251,11 @@ mod tests {
                 state: lent,
             });
             *place = answer[1];
-            write(state, &answer[2..13]);
-            write(rows, &answer[13..]);
+            write(state, &answer[2..2 + STATE_NUMBERS]);
+            write(rows, &answer[2 + STATE_NUMBERS..]);
+            if self.slip == "list's count" && answer[0] == 17 && *place > 1 {
+                state[KEPT] -= 1;
+            }
             if self.slip == "rest" && answer[0] == 0 && rows.len() > land.len() / 3 * 7 {
                 *rows.last_mut().unwrap() ^= 1;
             }
@@ -1887,6 +2281,30 @@ mod tests {
             });
             result.copy_from_slice(&answer[1..3]);
             write(state, &answer[3..]);
+            if self.slip == "spin-up's count" && answer[..2] == [0, 0] {
+                state[KEPT] = lent[KEPT];
+            }
+            answer[0]
+        }
+
+        fn take_back(&mut self, state: &mut [u64]) -> u64 {
+            let Ok(lent) = <StateNumbers>::try_from(&*state) else {
+                return WRONG_LENGTH;
+            };
+            match self.slip {
+                "taking back asks the soil" if lent[KEPT] > 0 && lent[CLAY] > 1_000 => return 4,
+                "20 after 10" if lent[KEPT] == 0 && lent[MONTHS] > 120_000 => return 10,
+                _ => (),
+            }
+            let answer = self.answer(&Call::TakeBack { state: lent });
+            write(state, &answer[1..]);
+            if self.slip == "months that wrap" && answer[0] == 0 && lent[MONTHS] > u64::MAX - 23 {
+                let wrapped = memory::place(lent[MONTHS].wrapping_add(23));
+                state[..OWN_NUMBERS].copy_from_slice(&lent[wrapped]);
+            }
+            if self.slip == "place cleared" && answer[0] == 0 {
+                state[memory::place(lent[MONTHS] % 24 + 23)].fill(0);
+            }
             answer[0]
         }
 
@@ -1937,7 +2355,7 @@ mod tests {
         }
     }
 
-    fn compare(slip: &'static str) -> (u64, u64, HashMap<(char, u64), u64>) {
+    fn compare(slip: &'static str) -> (u64, u64, HashMap<(&'static str, u64), u64>) {
         let mut own = Own { slip };
         let mut quiet = |_: &str| ();
         let mut differ = Differ::new(&mut own, 5, &mut quiet);
@@ -1948,7 +2366,10 @@ mod tests {
             books: 1_000,
             tables: 2_000,
             pairs: 300,
+            histories: 3_000,
+            takings_back: 2_000,
             chain: 1_500,
+            taken_chain: 1_000,
         });
         if slip.is_empty() {
             assert!(differ.first.is_empty(), "{}", differ.first[0]);
@@ -1961,18 +2382,45 @@ mod tests {
         let (compared, differ, seen) = compare("");
         assert_eq!(differ, 0);
         assert!(compared > 15_000);
-        let wanted: [(char, &[u64]); 6] = [
-            ('N', &[0, 4, 5, 6, 7]),
-            ('M', &[0, 4, 5, 6, 7, 10, 11, 12, 13, 14, 19, 15, 16, 17]),
-            ('L', &[0, 3, 4, 5, 6, 7, 8, 10, 12, 13, 14, 19, 15, 16, 17]),
-            ('S', &[0, 3, 4, 5, 6, 7, 9, 10, 12, 13, 14, 19, 15, 16, 17]),
-            ('T', &[0, 3, 8, 13, 14, 18]),
-            ('B', &[0, 1, 2, 3, 4, 5, 6, 7, 8, 13, 14, 15, 16, 17]),
+        let months = [0, 4, 5, 6, 7, 10, 11, 12, 13, 14, 19, 15, 16, 17];
+        let lists = [0, 3, 4, 5, 6, 7, 8, 10, 12, 13, 14, 19, 15, 16, 17];
+        let spin_ups = [0, 3, 4, 5, 6, 7, 9, 10, 12, 13, 14, 19, 15, 16, 17];
+        let books = [0, 1, 2, 3, 4, 5, 6, 7, 8, 13, 14, 15, 16, 17];
+        let wanted: [(&str, &[u64]); 7] = [
+            ("new state", &[0, 4, 5, 6, 7]),
+            ("month", &months),
+            ("list", &lists),
+            ("spin-up", &spin_ups),
+            ("taking-back", &[0, 10, 20]),
+            ("table", &[0, 3, 8, 13, 14, 18]),
+            ("book", &books),
         ];
-        for (letter, numbers) in wanted {
+        for (name, numbers) in wanted {
             for number in numbers {
-                assert!(seen.contains_key(&(letter, *number)), "{letter} {number}");
+                assert!(seen.contains_key(&(name, *number)), "{name} {number}");
             }
+        }
+    }
+
+    /// Slips in keeping and taking back are found without the test lines.
+    #[test]
+    fn slips_of_kept_months_differ() {
+        for slip in [
+            "list's count",
+            "spin-up's count",
+            "taking back asks the soil",
+            "20 after 10",
+            "months that wrap",
+            "place cleared",
+            "refused month kept",
+            "25 kept",
+        ] {
+            let mut own = Own { slip };
+            let mut quiet = |_: &str| ();
+            let mut differ = Differ::new(&mut own, 5, &mut quiet);
+            differ.takings_back(3_000);
+            differ.histories(6_000);
+            assert!(differ.differ > 0, "{slip}");
         }
     }
 

@@ -30,7 +30,7 @@ pub fn book_fixed(bytes: &[u8]) -> (Answer, bool) {
     (answer, fixed)
 }
 
-/// A list's answer and whether it is fixed.
+/// A list's answer, none kept, and whether it is fixed.
 pub fn list_fixed(
     state: &State,
     weather: &[i64],
@@ -40,6 +40,7 @@ pub fn list_fixed(
     let mut fixed = true;
     let answer = list_watched(
         state,
+        0,
         weather,
         land,
         output,
@@ -49,7 +50,7 @@ pub fn list_fixed(
     (answer, fixed)
 }
 
-/// A spin-up's answer and whether it is fixed.
+/// A spin-up's answer, none kept, and whether it is fixed.
 pub fn spin_up_fixed(
     state: &State,
     weather: &[i64],
@@ -59,6 +60,7 @@ pub fn spin_up_fixed(
     let mut fixed = true;
     let answer = spin_up_watched(
         state,
+        0,
         weather,
         land,
         years,

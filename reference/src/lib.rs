@@ -9,6 +9,7 @@ pub mod differ;
 pub mod exponential;
 pub mod fixed;
 pub mod fraction;
+pub mod memory;
 pub mod model;
 pub mod recurrence;
 pub mod table;

@@ -19,6 +19,8 @@ pub const LAND_NUMBERS: usize = 3;
 pub const OUTPUT_NUMBERS: usize = 7;
 /// Most years of a spin-up (9).
 pub const YEAR_LIMIT: i128 = 10_000;
+/// Most states kept beside the current one (10).
+pub const KEPT_LIMIT: usize = 24;
 /// A spin-up year settles at this change of the total or less, in grams.
 pub const SETTLED: u128 = 1_000;
 
@@ -61,6 +63,13 @@ pub struct State {
     pub co2: u64,
 }
 
+/// A field: its state, and the states before its latest months, from the oldest to the latest.
+#[derive(Clone, Debug, PartialEq, Eq)]
+pub struct Field {
+    pub state: State,
+    pub kept: Vec<State>,
+}
+
 /// What a month is given. Any numbers at all; the checks are the month's.
 #[derive(Clone, Copy, Debug, PartialEq, Eq)]
 pub struct Entries {
@@ -96,6 +105,7 @@ pub enum Cause {
     Ceiling = 17,
     TableLine = 18,
     Source = 19,
+    NoneKept = 20,
 }
 
 impl Cause {
@@ -178,13 +188,14 @@ impl State {
         }
     }
 
-    /// Refusal 10, for a soil that 4 to 7 don't refuse.
-    pub fn check_numbers(&self) -> Result<(), Cause> {
+    /// Refusal 10, for a soil that 4 to 7 don't refuse. `kept`: how many states are kept.
+    pub fn check_numbers(&self, kept: u64) -> Result<(), Cause> {
         let carbon = self.co2 as u128 + self.soil.active();
         if self.deficit < 0
             || self.deficit > self.soil.deficit_limit()
             || self.months > MONTH_LIMIT
             || carbon > CARBON_CEILING + MONTH_ADDITIONS * self.months as u128
+            || kept > KEPT_LIMIT as u64
         {
             return Err(Cause::State);
         }
@@ -379,23 +390,25 @@ pub fn run_month(state: &State, entries: &Entries, survival: &mut dyn Survival) 
 }
 
 /// Refusals of a single month call, in order: 4 to 7, 10, 11, 12, then those of its entries.
-pub fn check_call(state: &State, number: i128, entries: &Entries) -> Result<(), Cause> {
+/// `kept`: how many states are kept.
+pub fn check_call(state: &State, kept: u64, number: i128, entries: &Entries) -> Result<(), Cause> {
     state.soil.check()?;
-    state.check_numbers()?;
+    state.check_numbers(kept)?;
     if number != state.months as i128 + 1 {
         return Err(Cause::Turn);
     }
     check_month(state, entries)
 }
 
-/// A single month call: the state returned and the month's row or the refusal (place 0).
+/// A single month call with none kept: the state returned and the month's row or the refusal (place
+/// 0).
 pub fn month(
     state: &State,
     number: i128,
     entries: &Entries,
     survival: &mut dyn Survival,
 ) -> (State, Result<Row, Refusal>) {
-    match check_call(state, number, entries) {
+    match check_call(state, 0, number, entries) {
         Err(cause) => (state.clone(), Err(Refusal { cause, place: 0 })),
         Ok(()) => {
             let (next, row) = run_month(state, entries, survival);
@@ -431,8 +444,8 @@ fn list_count(numbers: &[i64], a_row: usize) -> Result<(), Cause> {
     Ok(())
 }
 
-/// Step 7: a list of months. Rows go to the front of `output`; the rest stays as it was.
-/// Order: 3, 4 to 7, 8, 10 with place 0, then month by month 12 and those of its entries.
+/// Step 7: a list of months with none kept. Rows go to the front of `output`; the rest stays as it
+/// was. Order: 3, 4 to 7, 8, 10 with place 0, then month by month 12 and those of its entries.
 /// Refused at month j it returns the state after j - 1 months, with those rows written.
 pub fn list(
     state: &State,
@@ -441,11 +454,12 @@ pub fn list(
     output: &mut [u64],
     survival: &mut dyn Survival,
 ) -> (State, Result<(), Refusal>) {
-    list_watched(state, weather, land, output, survival, &mut |_, _| ())
+    list_watched(state, 0, weather, land, output, survival, &mut |_, _| ())
 }
 
 pub fn list_watched(
     state: &State,
+    kept: u64,
     weather: &[i64],
     land: &[i64],
     output: &mut [u64],
@@ -460,7 +474,7 @@ pub fn list_watched(
         if output.len() < rows * OUTPUT_NUMBERS {
             return Err(Cause::OutputTooShort);
         }
-        state.check_numbers()
+        state.check_numbers(kept)
     };
     if let Err(cause) = outside() {
         return (state.clone(), Err(Refusal { cause, place: 0 }));
@@ -492,8 +506,8 @@ pub enum Spun {
     Unsettled(u64),
 }
 
-/// Spin-up. Order: 3, 4 to 7, 9, 10 with place 0, then month by month 12 and those of its
-/// entries, the place counted over all years. A refusal returns the starting state.
+/// Spin-up with none kept. Order: 3, 4 to 7, 9, 10 with place 0, then month by month 12 and those of
+/// its entries, the place counted over all years. A refusal returns the starting state.
 pub fn spin_up(
     state: &State,
     weather: &[i64],
@@ -501,11 +515,12 @@ pub fn spin_up(
     years: i128,
     survival: &mut dyn Survival,
 ) -> (State, Result<Spun, Refusal>) {
-    spin_up_watched(state, weather, land, years, survival, &mut |_, _| ())
+    spin_up_watched(state, 0, weather, land, years, survival, &mut |_, _| ())
 }
 
 pub fn spin_up_watched(
     state: &State,
+    kept: u64,
     weather: &[i64],
     land: &[i64],
     years: i128,
@@ -520,7 +535,7 @@ pub fn spin_up_watched(
         if !(1..=YEAR_LIMIT).contains(&years) {
             return Err(Cause::Years);
         }
-        state.check_numbers()
+        state.check_numbers(kept)
     };
     if let Err(cause) = outside() {
         return (state.clone(), Err(Refusal { cause, place: 0 }));
@@ -547,6 +562,97 @@ pub fn spin_up_watched(
         }
     }
     (current, Ok(Spun::Unsettled(years as u64)))
+}
+
+/// The calls on a field. A month that runs keeps the state before it; a refusal keeps nothing.
+impl Field {
+    /// The new state of a soil, none kept.
+    pub fn new(soil: Soil) -> Field {
+        Field {
+            state: State::new(soil),
+            kept: Vec::new(),
+        }
+    }
+
+    fn keep(&mut self, before: State) {
+        self.kept.push(before);
+        if self.kept.len() > KEPT_LIMIT {
+            self.kept.remove(0);
+        }
+    }
+
+    pub fn month(
+        &mut self,
+        number: i128,
+        entries: &Entries,
+        survival: &mut dyn Survival,
+    ) -> Result<Row, Refusal> {
+        let kept = self.kept.len() as u64;
+        check_call(&self.state, kept, number, entries)
+            .map_err(|cause| Refusal { cause, place: 0 })?;
+        let (next, row) = run_month(&self.state, entries, survival);
+        let before = std::mem::replace(&mut self.state, next);
+        self.keep(before);
+        Ok(row)
+    }
+
+    /// Refused at month j it has kept the states before its j - 1 months.
+    pub fn list(
+        &mut self,
+        weather: &[i64],
+        land: &[i64],
+        output: &mut [u64],
+        survival: &mut dyn Survival,
+    ) -> Result<(), Refusal> {
+        let mut befores = Vec::new();
+        let (next, answer) = list_watched(
+            &self.state,
+            self.kept.len() as u64,
+            weather,
+            land,
+            output,
+            survival,
+            &mut |before, _| befores.push(before.clone()),
+        );
+        for before in befores {
+            self.keep(before);
+        }
+        self.state = next;
+        answer
+    }
+
+    /// Ends with none kept unless it is refused.
+    pub fn spin_up(
+        &mut self,
+        weather: &[i64],
+        land: &[i64],
+        years: i128,
+        survival: &mut dyn Survival,
+    ) -> Result<Spun, Refusal> {
+        let (next, answer) = spin_up_watched(
+            &self.state,
+            self.kept.len() as u64,
+            weather,
+            land,
+            years,
+            survival,
+            &mut |_, _| (),
+        );
+        if answer.is_ok() {
+            self.state = next;
+            self.kept.clear();
+        }
+        answer
+    }
+
+    /// Takes the latest month back. Refusals: 20, then 10 for the kept count, nothing else.
+    pub fn take_back(&mut self) -> Result<(), Cause> {
+        if self.kept.len() > KEPT_LIMIT {
+            return Err(Cause::State);
+        }
+        self.state = self.kept.pop().ok_or(Cause::NoneKept)?;
+        Ok(())
+    }
 }
 
 #[cfg(test)]
@@ -972,6 +1078,87 @@ mod tests {
             (answer, next.months),
             (Ok(Spun::Unsettled(10_000)), 120_000)
         );
+    }
+
+    #[test]
+    fn months_taken_back() {
+        let mut field = Field::new(hoosfield());
+        assert_eq!(field.take_back(), Err(Cause::NoneKept));
+        let mut states = Vec::new();
+        let refused = |answer: Result<Row, Refusal>| answer.unwrap_err().cause.number();
+        for number in 1..=30 {
+            states.push(field.state.clone());
+            assert!(field.month(number, &JANUARY, &mut Nearest).is_ok());
+            // A refused month keeps nothing.
+            assert_eq!(refused(field.month(number, &JANUARY, &mut Nearest)), 11);
+            assert_eq!(field.kept, states[states.len().saturating_sub(24)..]);
+        }
+        let mut back = field.clone();
+        for left in (0..24).rev() {
+            assert_eq!(back.take_back(), Ok(()));
+            assert_eq!((&back.state, back.kept.len()), (&states[6 + left], left));
+        }
+        assert_eq!(back.take_back(), Err(Cause::NoneKept));
+        assert_eq!(back.state, states[6]);
+        // Booked afresh: the same field again.
+        for number in 7..=30 {
+            assert!(back.month(number, &JANUARY, &mut Nearest).is_ok());
+        }
+        assert_eq!(back, field);
+        // By a list, and by one that is refused at its fourth month.
+        let mut listed = Field::new(hoosfield());
+        let january = [34, 740, 80, 0];
+        let bare = [0, 0, 0].repeat(30);
+        let mut rows = [0; 210];
+        let answer = listed.list(&january, &bare, &mut rows, &mut Nearest);
+        assert_eq!((answer, &listed), (Ok(()), &field));
+        let mut wrong = bare.clone();
+        wrong[9] = 2;
+        let answer = listed.list(&january, &wrong, &mut rows, &mut Nearest);
+        assert_eq!(answer.unwrap_err().place, 4);
+        for number in 31..=33 {
+            assert!(field.month(number, &JANUARY, &mut Nearest).is_ok());
+        }
+        assert_eq!(listed, field);
+        // Spin-up: refused it keeps all, else none.
+        let year = january.repeat(12);
+        let spun = listed.spin_up(&year, &wrong[..36], 3, &mut Nearest);
+        assert_eq!((spun.unwrap_err().place, &listed), (4, &field));
+        assert!(listed.spin_up(&year, &bare[..36], 3, &mut Nearest).is_ok());
+        assert!(listed.kept.is_empty() && listed.state.months > 33);
+        assert_eq!(listed.take_back(), Err(Cause::NoneKept));
+    }
+
+    /// A kept count above 24 is 10, in its turn; taking back asks nothing else.
+    #[test]
+    fn too_many_kept() {
+        let mut field = Field::new(hoosfield());
+        field.kept = vec![field.state.clone(); 25];
+        let given = field.clone();
+        assert_eq!(field.take_back(), Err(Cause::State));
+        let mut numbers = Vec::new();
+        for clay in [1_001, 234] {
+            field.state.soil.clay = clay;
+            let months = field.month(9, &JANUARY, &mut Nearest).map(drop);
+            let lists = [6, 7].map(|room| {
+                let mut rows = vec![0; room];
+                field.list(&[34, 740, 80, 0], &[0, 0, 0], &mut rows, &mut Nearest)
+            });
+            let years = [0, 1].map(|years| {
+                let (sky, land) = ([34, 740, 80, 0].repeat(12), [0; 36]);
+                let spun = field.spin_up(&sky, &land, years, &mut Nearest);
+                spun.map(drop)
+            });
+            let answers = [months, lists[0], lists[1], years[0], years[1]];
+            numbers.push(answers.map(|answer| answer.unwrap_err().cause.number()));
+        }
+        assert_eq!(numbers, [[4; 5], [10, 8, 10, 9, 10]]);
+        assert_eq!(field, given);
+        field.kept.pop();
+        field.state.soil = soil(5_000, 0, 9, [u64::MAX; 4], u64::MAX);
+        field.state.months = u64::MAX;
+        assert_eq!(field.take_back(), Ok(()));
+        assert_eq!((&field.state, field.kept.len()), (&given.state, 23));
     }
 
     /// Numbers of any size end in an answer, and a refused call returns what it was given.

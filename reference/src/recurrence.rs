@@ -4,8 +4,8 @@ use crate::big::{Integer, Natural};
 use crate::exponential::BILLION;
 use crate::fraction::Fraction;
 use crate::model::{
-    check_call, check_entries, factors, month, plant_share, Entries, Soil, State, Survival, BIO,
-    DPM, HUM, RATES, RPM,
+    check_call, check_entries, factors, list_entries, month, plant_share, Cause, Entries, Field,
+    Refusal, Row, Soil, State, Survival, BIO, DPM, HUM, OUTPUT_NUMBERS, RATES, RPM,
 };
 use std::cmp::Ordering;
 
@@ -330,10 +330,84 @@ pub fn run_calls(
     (answered, state)
 }
 
+/// A list of calls with months taken back in it, begun with none kept: the field, and the accepted
+/// months that remain.
+#[derive(Clone, Debug)]
+pub struct Remaining {
+    soil: Soil,
+    pub field: Field,
+    pub months: Vec<Entries>,
+}
+
+impl Remaining {
+    pub fn new(soil: &Soil) -> Remaining {
+        Remaining {
+            soil: soil.clone(),
+            field: Field::new(soil.clone()),
+            months: Vec::new(),
+        }
+    }
+
+    /// A single month call.
+    pub fn month(
+        &mut self,
+        number: i128,
+        entries: &Entries,
+        survival: &mut dyn Survival,
+    ) -> Result<Row, Refusal> {
+        let row = self.field.month(number, entries, survival)?;
+        self.months.push(*entries);
+        Ok(row)
+    }
+
+    /// A list; refused at month j it leaves its j - 1 months.
+    pub fn list(
+        &mut self,
+        weather: &[i64],
+        land: &[i64],
+        survival: &mut dyn Survival,
+    ) -> Result<(), Refusal> {
+        let before = self.field.state.months;
+        let mut output = vec![0; land.len() * OUTPUT_NUMBERS];
+        let answer = self.field.list(weather, land, &mut output, survival);
+        let ran = (self.field.state.months - before) as usize;
+        self.months
+            .extend((1..=ran).map(|j| list_entries(weather, land, j)));
+        answer
+    }
+
+    pub fn take_back(&mut self) -> Result<(), Cause> {
+        self.field.take_back()?;
+        self.months.pop().expect("a kept month remains");
+        Ok(())
+    }
+
+    /// The months that remain as calls, all of them accepted.
+    pub fn calls(&self) -> Vec<Call> {
+        let accepted = |entries: &Entries| Call {
+            entries: *entries,
+            accepted: true,
+        };
+        self.months.iter().map(accepted).collect()
+    }
+
+    /// Does the field stand where the months that remain, run alone, end? Kept months aside.
+    pub fn is_alone(&self, survival: &mut dyn Survival) -> bool {
+        let numbered: Vec<(i128, Entries)> = (1..).zip(self.months.iter().copied()).collect();
+        let (answered, last) = run_calls(&self.soil, &numbered, survival);
+        answered == self.calls() && last == self.field.state
+    }
+
+    /// Demand 3 for it.
+    pub fn demand_three(&self, survival: &mut dyn Survival) -> DemandThree {
+        demand_three(&self.soil, &self.calls(), &self.field.state, survival)
+    }
+}
+
 /// Are the recorded answers those of the paper? `numbers` by call; `states` as each call was given.
 pub fn acceptance_right(states: &[State], numbers: &[i128], calls: &[Call]) -> bool {
     calls.iter().enumerate().all(|(index, call)| {
-        check_call(&states[index], numbers[index], &call.entries).is_ok() == call.accepted
+        check_call(&states[index], 0, numbers[index], &call.entries).is_ok() == call.accepted
     })
 }
 
@@ -569,6 +643,87 @@ mod tests {
                 );
             }
         }
+    }
+
+    /// Months, lists and takings-back, refused ones among them: the list ends where its months that
+    /// remain end alone, balances and stays near the recurrence.
+    #[test]
+    fn demand_three_with_months_taken_back() {
+        let mut draw = Draw(2602);
+        let mut none_kept = 0;
+        for _ in 0..60 {
+            let soil = Soil {
+                clay: draw.below(1001) as i128,
+                depth: 1 + draw.below(100) as i128,
+                kind: 1 + draw.below(3) as i128,
+                pools: std::array::from_fn(|_| draw.below(200_000_000)),
+                inert: 7,
+            };
+            let mut lowest = |n, k| allowed_range(n, k).0;
+            let mut highest = |n, k| allowed_range(n, k).1;
+            let survivals: [&mut dyn Survival; 3] = [&mut Nearest, &mut lowest, &mut highest];
+            for survival in survivals {
+                let mut list = Remaining::new(&soil);
+                let mut all = Vec::new();
+                let mut taken = 0;
+                for _ in 0..40 {
+                    let mut entries = some_entries(&mut draw, 2_000_000);
+                    let number = list.field.state.months as i128 + 1;
+                    match draw.below(12) {
+                        0 => assert!(list.month(number + 1, &entries, survival).is_err()),
+                        1 => {
+                            entries.rain = -1;
+                            assert!(list.month(number, &entries, survival).is_err());
+                        }
+                        // Its last month is refused.
+                        2 => {
+                            let weather = [50, 400, 300, 1, 501, 0, 0, 0];
+                            let land = [0, 5_000, 7_000, 1, 0, 0];
+                            let refused = list.list(&weather, &land, survival).unwrap_err();
+                            assert_eq!(refused.place, 2);
+                            all.push(list.months[list.months.len() - 1]);
+                        }
+                        3..=5 => {
+                            for _ in 0..1 + draw.below(3) {
+                                match list.take_back() {
+                                    Ok(()) => taken += 1,
+                                    Err(cause) => {
+                                        assert_eq!(cause.number(), 20);
+                                        none_kept += 1;
+                                    }
+                                }
+                            }
+                        }
+                        _ => {
+                            list.month(number, &entries, survival).expect("in turn");
+                            all.push(entries);
+                        }
+                    }
+                }
+                assert!(taken > 0 && list.months.len() + taken == all.len());
+                assert!(list.is_alone(survival));
+                let holds = DemandThree {
+                    carbon_closes: true,
+                    distance: Decision::Holds,
+                };
+                assert_eq!(list.demand_three(survival), holds);
+                let mut between = |number: u64, pool: usize, s: u64| {
+                    let shift = (number * 5 + pool as u64) as i128 % 57 - 28;
+                    let top = (s as i128 * 7 + shift).clamp(0, 7 * BILLION as i128);
+                    Fraction::of(top, 7 * BILLION as u128)
+                };
+                let (calls, last) = (list.calls(), &list.field.state);
+                let exact = distance_exact(&soil, &calls, last, survival, &mut between);
+                assert_eq!(exact, Decision::Holds);
+                // With the months taken back it doesn't balance.
+                let all = all.iter().map(|entries| Call {
+                    entries: *entries,
+                    accepted: true,
+                });
+                assert!(!carbon_closes(&soil, &all.collect::<Vec<_>>(), last));
+            }
+        }
+        assert!(none_kept > 0);
     }
 
     /// The exact pools lie in the enclosure.

@@ -2,6 +2,7 @@
 // this one, where its wrong programs are tried. An export can only be of its own crate.
 ghost use mathlib.Core.Path.{_≡_};
 ghost use Rattle.library_month.specs.Calls.{rothcSurvival, rothcStart, rothcMonth};
+ghost use Rattle.library_back.specs.Calls.{rothcTakeBack};
 ghost use Rattle.library_list.specs.Calls.{rothcList, rothcSpinUp};
 ghost use Rattle.library_book.specs.Calls.{rothcBook};
 ghost use Rattle.library_table.specs.Calls.{rothcTable};
@@ -32,6 +33,14 @@ pub extern "C" fn rothc_month(
         ≡ rothcMonth (now (state .entry)) number (now (entries .entry)) (now (row .entry)) ⌝ }
 {
     library_month::month(state, number, entries, row)
+}
+
+#[no_mangle]
+pub extern "C" fn rothc_take_back(state: &mut [u64]) -> u64
+    ensures { λ r. ⌜ record { number = r; state = now (state .exit) }
+        ≡ rothcTakeBack (now (state .entry)) ⌝ }
+{
+    library_back::take_back(state)
 }
 
 #[no_mangle]

@@ -9,6 +9,7 @@ ghost use Rattle.library_list.specs.Calls.{rothcList, resultWidth, spinR
 use library_month::SHAPE;
 use list_run::ListAnswer;
 use list_run::run;
+use month_layouts::FIELD_WIDTH;
 use month_layouts::STATE_WIDTH;
 use month_layouts::put_state;
 use month_layouts::state_of;
@@ -35,7 +36,7 @@ fn list_told(answer: ListAnswer) -> NumberAndPlace
     }
 }
 
-// A list of months.
+// A list of months. The states before them are kept in the memory after the current one.
 pub fn list(
     state: &mut [u64],
     weather: &[i64],
@@ -52,10 +53,12 @@ pub fn list(
         ≡ rothcList (now (state .entry)) (now (weather .entry)) (now (land .entry))
         (now (rows .entry)) (now (place .entry)) ⌝ }
 {
-    if state.len() != STATE_WIDTH {
+    if state.len() != FIELD_WIDTH {
         return SHAPE;
     }
-    let outcome = run(state_of(state), weather, land, rows);
+    let given = state_of(state);
+    let from = STATE_WIDTH;
+    let outcome = run(given, weather, land, rows, &mut state[from..]);
     let answer = outcome.answer;
     let after = outcome.state;
     put_state(state, after);
@@ -105,7 +108,8 @@ fn put_result(result: &mut [u64], answer: SpinAnswer)
     }
 }
 
-// A spin-up of at most so many years.
+// A spin-up of at most so many years. It ends with none kept unless it is refused, and leaves the
+// memory of the kept ones as it was.
 pub fn spin_up(
     state: &mut [u64],
     weather: &[i64],
@@ -117,7 +121,7 @@ pub fn spin_up(
         ≡ rothcSpinUp (now (state .entry)) (now (weather .entry)) (now (land .entry)) years
         (now (result .entry)) ⌝ }
 {
-    if state.len() != STATE_WIDTH {
+    if state.len() != FIELD_WIDTH {
         return SHAPE;
     }
     if result.len() != RESULT_WIDTH {

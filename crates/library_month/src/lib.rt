@@ -3,12 +3,13 @@
 // memory of a fixed layout has another length.
 ghost use mathlib.Core.Path.{_≡_};
 ghost use Rattle.library_month.specs.Calls.{rothcSurvival, rothcStart, rothcMonth};
+use kept_demand3::call;
 use list_rows::ENTRIES_WIDTH;
 use list_rows::ROW_WIDTH;
 use list_rows::entries_of;
 use list_rows::put_row;
 use month_call::Answer;
-use month_demand3::call;
+use month_layouts::FIELD_WIDTH;
 use month_layouts::SOIL_WIDTH;
 use month_layouts::STATE_WIDTH;
 use month_layouts::put_state;
@@ -46,7 +47,7 @@ pub fn start(soil: &[u64], state: &mut [u64]) -> u64
     if soil.len() != SOIL_WIDTH {
         return SHAPE;
     }
-    if state.len() != STATE_WIDTH {
+    if state.len() != FIELD_WIDTH {
         return SHAPE;
     }
     let given = soil_of(soil);
@@ -59,12 +60,13 @@ pub fn start(soil: &[u64], state: &mut [u64]) -> u64
     }
 }
 
-// The single month call, the one that has demand 3 in its promise.
+// The single month call, the one that has demand 3 in its promise. The state before an accepted
+// month is kept in the memory after the current one.
 pub fn month(state: &mut [u64], number: u64, entries: &[i64], row: &mut [u64]) -> u64
     ensures { λ r. ⌜ record { number = r; state = now (state .exit); row = now (row .exit) }
         ≡ rothcMonth (now (state .entry)) number (now (entries .entry)) (now (row .entry)) ⌝ }
 {
-    if state.len() != STATE_WIDTH {
+    if state.len() != FIELD_WIDTH {
         return SHAPE;
     }
     if entries.len() != ENTRIES_WIDTH {
@@ -74,7 +76,8 @@ pub fn month(state: &mut [u64], number: u64, entries: &[i64], row: &mut [u64]) -
         return SHAPE;
     }
     let given = state_of(state);
-    let outcome = call(given, number, entries_of(entries));
+    let from = STATE_WIDTH;
+    let outcome = call(given, number, entries_of(entries), &mut state[from..]);
     let answer = outcome.answer;
     let next = outcome.state;
     match answer {

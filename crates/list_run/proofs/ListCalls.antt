@@ -52,7 +52,7 @@ unfolding outcomeOf
 unchanged s e Pass refusal h = absurd (let z : _≡_ {A = ℕ} 0 1 = cc in omega arith)
 unchanged s e (Refuse reason) refusal h = refl
 
-refused-same : (s : State) (e : Entries) (refusal : Refusal) → listMonth s e .answer ≡ Refused refusal → listMonth s e .state ≡ s
+pub refused-same : (s : State) (e : Entries) (refusal : Refusal) → listMonth s e .answer ≡ Refused refusal → listMonth s e .state ≡ s
 unfolding listMonth
 refused-same s e refusal h = unchanged s e (entriesCheck s e) refusal h
 

@@ -102,7 +102,7 @@ same-outcome (suc left) weather land j s out out' =
 -- ---- the output
 
 -- No row of a list lies before its first month's.
-rows-from :
+pub rows-from :
     {weather land : List ℤ} {left j : ℕ} {s : State} {out : List ℕ} {end : Left} → Course weather land left j s out end
     → (all : ℕ) → all ≡ j + left → j ≤ rowsWritten (end .outcome .answer) all
 rows-from finished all h = omega arith

@@ -18,6 +18,8 @@ use Rattle.month_demand3.specs.Calls.{Call, runCalls, acceptedCalls, addedCarbo
 use Rattle.month_demand3.specs.Recurrence.{Exact, Leads, exactStart, feed}
 use Rattle.month_demand3.specs.Demand.{totalDistance}
 use Rattle.list_rows.specs.Rows.{entriesAt}
+use Rattle.kept_demand3.specs.Acts.{runActs, calls}
+use Rattle.list_run.specs.Run.{keptMonths}
 
 -- So many months of a list from the one at place j, as single month calls: `done` months being
 -- done, their numbers are done + 1, done + 2 and so on.
@@ -51,6 +53,22 @@ pub record Stopped
   pub call :
       monthCall after (after .months + 1) (entriesAt weather land (j + ran)) .answer
       ≡ Refused refusal
+
+-- The months that ran leave the very field that their calls leave (change 2026-02): the state after
+-- them, and the states that they keep. So a list's months are taken back as single months are, and
+-- a list stands in demand 3's list of calls and takings-back for its calls.
+pub record FieldOfCalls
+    (weather land : List ℤ)
+    (j : ℕ)
+    (s : State)
+    (memory : List ℕ)
+    (ran : ℕ)
+    (after : State)
+    : Type 0 where
+  pub field :
+      runActs (record { state = s; memory = memory })
+      (calls (listCalls ran weather land j (s .months)))
+      ≡ record { state = after; memory = keptMonths ran weather land j s memory }
 
 -- A row at place j of an output, counted from 0: each of its numbers is there.
 pub record RowAt (output : List ℕ) (j : ℕ) (row : Row) : Type 0 where

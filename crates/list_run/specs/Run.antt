@@ -19,6 +19,7 @@ use Rattle.month_refusals.specs.Refusals.{soilAsked, boundsAsked, entriesAsked}
 use Rattle.month_call.specs.declared.Answer.{Answer}
 use Rattle.month_call.specs.declared.Answer.the-variants.{Done, Refused}
 use Rattle.month_call.specs.Month.{listMonth}
+use Rattle.kept_months.specs.Kept.{keep}
 use Rattle.list_rows.specs.Rows.{landRows, rowsOutside, entriesAt}
 use Rattle.list_run.specs.declared.ListAnswer.{ListAnswer}
 use Rattle.list_run.specs.declared.ListAnswer.the-variants as answers
@@ -62,6 +63,15 @@ months (suc left) weather land j s out =
 abbrev pub rowsWritten : ListAnswer → ℕ → ℕ
 rowsWritten answers.Finished months = months
 rowsWritten (answers.Refused refusal place) months = place - 1
+
+-- What so many months keep, from the one at place j: the state before each of them (change
+-- 2026-02). Of a list they are those that have written their rows: a list that is refused at a month
+-- has kept the ones before it.
+unfoldable pub keptMonths : ℕ → List ℤ → List ℤ → ℕ → State → List ℕ → List ℕ
+keptMonths zero weather land j s memory = memory
+keptMonths (suc left) weather land j s memory =
+    keptMonths left weather land (suc j) (listMonth s (entriesAt weather land j) .state)
+    (keep s memory)
 
 -- ---- what is asked
 

@@ -1,15 +1,19 @@
 // A list of months from a given state, step 7 of document 01: weather and land rows lent as slices
-// of numbers, the rows that the months give written to a lent output.
+// of numbers, the rows that the months give written to a lent output, and the states before them
+// kept in lent memory.
 ghost use mathlib.Core.Path.{_≡_};
 ghost use mathlib.Core.List.{_++_};
 ghost use Prim.Native.Nat.{_+_, _*_, _≤_};
 ghost use lib.ListN.{length};
-ghost use Rattle.list_rows.specs.Rows.{weatherWidth, landWidth, rowWidth};
+ghost use Rattle.month_layouts.specs.Layouts.{memoryWidth};
+ghost use Rattle.list_rows.specs.Rows.{weatherWidth, landWidth, rowWidth, landRows};
 ghost use Rattle.month_refusals.specs.declared.Check.the-variants.{Pass};
 ghost use Rattle.month_refusals.specs.Asked.{Finds, told, Exactly};
 ghost use Rattle.month_refusals.specs.Refusals.{boundsAsked, soilCheck, stateCheck};
 ghost use Rattle.list_run.specs.Run.{ended, months, roomAsked, beforeMonths, listAsked, run};
-ghost use Rattle.list_run.specs.Run.{listFound, listTold};
+ghost use Rattle.list_run.specs.Run.{rowsWritten, keptMonths, listFound, listTold};
+ghost use Rattle.list_run.specs.ListCalls.{FieldOfCalls};
+use kept_months::keep;
 use list_rows::LAND_WIDTH;
 use list_rows::ROW_WIDTH;
 use list_rows::WEATHER_WIDTH;
@@ -55,7 +59,8 @@ fn ended(answer: Answer, place: u64, state: State) -> ListOutcome
 
 // So many months from the land row at a place on, counted from 0, their rows written as they run.
 // The first refusal ends them. Longer runs are made of these: the places are those of the whole
-// list.
+// list. They keep no state, though the kept count goes up with each: whoever hands the state on
+// keeps the states (`keep_months`) or puts the count to 0 (a spin-up).
 pub fn run_months(
     s: State,
     weather: &[i64],
@@ -83,6 +88,45 @@ pub fn run_months(
             return ended(answer, j as u64 + 1, state);
         };
         put_row(out, j, row);
+        j += 1;
+    }
+    ListOutcome {
+        answer: ListAnswer::Finished,
+        state,
+    }
+}
+
+// So many months from the first, which keep the state before each of them that runs.
+fn keep_months(
+    s: State,
+    weather: &[i64],
+    land: &[i64],
+    count: usize,
+    out: &mut [u64],
+    memory: &mut [u64],
+) -> ListOutcome
+    requires state { ⌜ stateCheck s ≡ Pass ⌝ }
+    requires weather { ⌜ weatherWidth ≤ length (now weather) ⌝ }
+    requires land { ⌜ (landWidth * count ≤ length (now land)) × (count ≤ 1200) ⌝ }
+    requires room { ⌜ rowWidth * count ≤ length (now out) ⌝ }
+    requires memory { ⌜ length (now memory) ≡ memoryWidth ⌝ }
+    ensures left { λ r. ⌜ record { outcome = r; output = now (out .exit) }
+        ≡ months count (now (weather .entry)) (now (land .entry)) 0 s (now (out .entry)) ⌝ }
+    ensures kept { λ r. ⌜ now (memory .exit)
+        ≡ keptMonths (rowsWritten (r .answer) count) (now (weather .entry)) (now (land .entry)) 0 s
+        (now (memory .entry)) ⌝ }
+{
+    let mut state = s;
+    let mut j = 0;
+    while j < count {
+        let outcome = run_months(state, weather, land, j, 1, out);
+        let answer = outcome.answer;
+        let next = outcome.state;
+        let ListAnswer::Finished = answer else {
+            return outcome;
+        };
+        keep(state, memory);
+        state = next;
         j += 1;
     }
     ListOutcome {
@@ -121,10 +165,24 @@ fn check_list(s: State, weather: &[i64], land: &[i64], room: usize) -> Check
 }
 
 // A list of months: one for each land row, the weather rows taken in turn and again from the first.
-// Its refusals are the papers', each given exactly where it is the first that applies.
-pub fn run(s: State, weather: &[i64], land: &[i64], out: &mut [u64]) -> ListOutcome
+// Its refusals are the papers', each given exactly where it is the first that applies. The state
+// before each month that ran is kept, so that it leaves the field that single month calls leave.
+pub fn run(
+    s: State,
+    weather: &[i64],
+    land: &[i64],
+    out: &mut [u64],
+    memory: &mut [u64],
+) -> ListOutcome
+    requires { ⌜ length (now memory) ≡ memoryWidth ⌝ }
     ensures left { λ r. ⌜ record { outcome = r; output = now (out .exit) }
         ≡ run s (now (weather .entry)) (now (land .entry)) (now (out .entry)) ⌝ }
+    ensures kept { λ r. ⌜ now (memory .exit)
+        ≡ keptMonths (rowsWritten (r .answer) (landRows (now (land .entry)))) (now (weather .entry))
+        (now (land .entry)) 0 s (now (memory .entry)) ⌝ }
+    ensures field { λ r. ⌜ FieldOfCalls (now (weather .entry)) (now (land .entry)) 0 s
+        (now (memory .entry)) (rowsWritten (r .answer) (landRows (now (land .entry))))
+        (r .state) ⌝ }
     ensures told { λ r. ⌜ listTold (r .answer)
         ≡ told (listAsked s (now (weather .entry)) (now (land .entry))
         (length (now (out .entry)))) ⌝ }
@@ -133,7 +191,7 @@ pub fn run(s: State, weather: &[i64], land: &[i64], out: &mut [u64]) -> ListOutc
         (listFound (r .answer)) ⌝ }
 {
     match check_list(s, weather, land, out.len()) {
-        Check::Pass => run_months(s, weather, land, 0, land.len() / LAND_WIDTH, out),
+        Check::Pass => keep_months(s, weather, land, land.len() / LAND_WIDTH, out, memory),
         Check::Refuse(refusal) => ListOutcome {
             answer: ListAnswer::Refused(refusal, 0),
             state: s,

@@ -17,6 +17,7 @@ use Rattle.month_refusals.specs.declared.Refusal.{Refusal}
 use Rattle.month_refusals.specs.Asked.{at, found, told, numberAndPlace, Exactly}
 use Rattle.month_refusals.specs.Refusals.{monthAsked, stateCheck, entriesCheck, monthCheck}
 use Rattle.month_refusals.proofs.First.{foundAt, found-at, exactly}
+use Rattle.month_state.proofs.Kept.{one-more-most}
 use Rattle.month_refusals.proofs.Accepted.{Sound, Ready, sound-state, state-passes, natural-most, ready, month-parts, month-is-entries}
 use Rattle.month_call.specs.declared.Answer.the-variants.{Refused}
 use Rattle.month_call.specs.Month.{largestDeficit, nextDeficit, nextRate, movedTo, Accepted, outcomeOf, monthCall, listMonth}
@@ -34,11 +35,11 @@ accepted s number e h =
 -- ---- the outcome
 
 -- A refusal changes nothing: it returns the refusal and the state that was given.
-pub refusal-keeps :
+pub refusal-returns :
     (s : State) (number : ℕ) (e : Entries) (r : Refusal) → monthCheck s number e ≡ Refuse r
     → monthCall s number e ≡ record { answer = Refused r; state = s }
 unfolding monthCall outcomeOf
-refusal-keeps s number e r h = rw h
+refusal-returns s number e r h = rw h
 
 -- An accepted call runs its month.
 pub accepted-runs :
@@ -138,6 +139,7 @@ module _ (s : State) (e : Entries) (h : Sound s) (r : Ready s e) where
             };
         deficit = deficit-most s e h;
         months = omega (arith, r .months);
+        kept = one-more-most (s .kept);
         carbon = omega (arith, balance, h .carbon, plant, manure);
       }
 

@@ -20,6 +20,7 @@ use Rattle.month_state.specs.declared.Weather.{Weather}
 use Rattle.month_state.specs.declared.Land.{Land}
 use Rattle.month_state.specs.declared.Entries.{Entries}
 use Rattle.month_state.specs.declared.Row.{Row}
+use Rattle.month_state.specs.State.{oneMoreKept}
 use Rattle.month_refusals.specs.declared.NumberAndPlace.{NumberAndPlace}
 use Rattle.month_refusals.specs.declared.Check.{Check}
 use Rattle.month_refusals.specs.declared.Check.the-variants.{Pass, Refuse}
@@ -72,8 +73,8 @@ abbrev pub withPools : Soil → List Grams → Soil
 withPools s pools =
     record { clay = s .clay; depth = s .depth; kind = s .kind; pools = pools; iom = s .iom }
 
--- The state after an accepted month: active pools, D, months done and CO2 to date moved on.
--- d is the new deficit and n the rate number, here and in the row.
+-- The state after an accepted month: active pools, D, months done and CO2 to date moved on, and one
+-- more kept. d is the new deficit and n the rate number, here and in the row.
 unfoldable pub movedTo : State → Land → ℕ → ℕ → State
 movedTo s l d n =
     record {
@@ -81,6 +82,7 @@ movedTo s l d n =
       deficit = record { 0 = d };
       months = s .months + 1;
       co2 = grams (s .co2 .0 + gasOf (s .soil) n);
+      kept = oneMoreKept (s .kept);
     }
 
 -- The row of a month: the five pools after it, its CO2 and the new deficit.

@@ -26,6 +26,7 @@ use month_state::Soil;
 use month_state::State;
 use month_state::Weather;
 use month_state::natural;
+use month_state::one_more_kept;
 use number_units::Grams;
 use number_units::Parts;
 use step_additions::additions;
@@ -135,6 +136,7 @@ fn step(s: State, e: Entries) -> Outcome
     let land = e.land;
     let iom = soil.iom;
     let to_date = s.co2;
+    let kept = one_more_kept(s.kept);
     let deficit = deficit_after(s, e);
     let n = rate_after(s, deficit, e);
     let left = after_decay(s, n);
@@ -162,6 +164,7 @@ fn step(s: State, e: Entries) -> Outcome
         deficit,
         months: s.months + 1,
         co2: Grams(to_date.0 + co2.0),
+        kept,
     };
     Outcome {
         answer: Answer::Done(row),

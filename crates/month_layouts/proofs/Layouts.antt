@@ -1,20 +1,23 @@
--- Laws of the layouts. Numbers put from a place on are there, and everything else stays; what was put is read back; a state and its
--- numbers are one another's, so that a refusal that gives back the state leaves its numbers as they were.
+-- Laws of the layouts. Numbers put from a place on are there, and everything else stays; what was put is read back; a field's state and
+-- its numbers are one another's, so that a refusal that gives back the state leaves its numbers as they were.
 -- Assumes nothing.
 use mathlib.Core.Path.{_≡_, refl, sym, _∙_, ap, subst}
 use mathlib.Core.List.{List, [], _∷_, _++_, append-assoc, append-nil}
-use Prim.Native.Nat.{ℕ, zero, suc, _+_, _*_, _≤_, _<_}
-use native.Mathlib.Nat.{add-suc}
+use Prim.Native.Nat.{ℕ, zero, suc, _+_, _-_, _*_, _≤_, _<_}
+use native.Mathlib.Nat.{add-suc, add-zero, zero-add}
 use native.Mathlib.Numerals.{add-one}
 use native.Mathlib.Omega.{arith}
-use lib.ListN.{length, getD, set, take, drop, length-append, drop-of-length-le, List·getD-append}
-use lib.Seq.{drop-cons, getD-append-add, getD-set-other, length-take-le, take-at, drop-at}
+use lib.Dec.{lit<}
+use lib.ListN.{length, getD, set, take, drop, take-append-drop, length-append, length-drop, drop-of-length-le, List·getD-append}
+use lib.Seq.{take-all, drop-cons, drop-drop, getD-append-add, getD-drop, getD-set-other, length-take-le, take-at, drop-at}
 use lib.Seq.{sets, sets-eq}
+use borrow.Rule.Slice.PartMut.{putMid}
 use Rattle.number_units.specs.declared.Grams.{Grams}
 use Rattle.step_pools.specs.Pools.{grams}
 use Rattle.month_state.specs.declared.State.{State}
-use Rattle.month_layouts.specs.Layouts.{stateWidth}
-use Rattle.month_layouts.specs.Layouts.{soilOf, stateOf, stateNumbers}
+use Rattle.month_state.specs.State.{withKept}
+use Rattle.month_layouts.specs.Layouts.{keptWidth, stateWidth, soilFrom, stateFrom, stateOf, keptNumbers, stateNumbers}
+use Rattle.month_layouts.specs.Layouts.{memoryWidth, fieldWidth, memoryOf, fieldNumbers}
 
 -- ---- numbers of any kind, put from a place on
 
@@ -62,6 +65,25 @@ module _ {A : Type 0} where
       put-elsewhere (set l place v) (suc place) values k d (λ c h e. off (suc c) (omega arith) (omega arith))
       ∙ getD-set-other l place k v d (λ e. off 0 (omega arith) (omega arith))
 
+  -- Put at the start of the part of a list from a place on, they are put from there on.
+  pub part-put :
+      (l : List A) (place : ℕ) (values : List A) → place + length values ≤ length l
+      → putMid place (length l - place) l (sets (take (length l - place) (drop place l)) 0 values) ≡ sets l place values
+  part-put l place values room =
+      let rest = drop place l in
+      let size : length rest ≡ length l - place = length-drop place l in
+      let whole-part : take (length l - place) rest ≡ rest = take-all (length l - place) rest (omega arith) in
+      let put : sets rest 0 values ≡ values ++ drop (length values) rest =
+      sets-eq values rest 0 (omega arith) ∙ ap (λ (n : ℕ). values ++ drop n rest) (zero-add (length values)) in
+      ap (λ (part : List A). putMid place (length l - place) l (sets part 0 values)) whole-part
+      ∙ ap (λ (part : List A). putMid place (length l - place) l part) put
+      ∙ ap (λ (after : List A). take place l ++ ((values ++ drop (length values) rest) ++ after))
+      (drop-of-length-le rest {i = length l - place} (omega arith))
+      ∙ ap (λ (part : List A). take place l ++ part) (append-nil (values ++ drop (length values) rest))
+      ∙ ap (λ (after : List A). take place l ++ (values ++ after)) (drop-drop (length values) place l)
+      ∙ sym (append-assoc (take place l) values (drop (place + length values) l))
+      ∙ sym (sets-eq values l place room)
+
   -- As many as there is memory are all that it has.
   pub stored : (l values : List A) → length l ≡ length values → sets l 0 values ≡ values
   stored l values h =
@@ -100,21 +122,77 @@ module _ {A : Type 0} where
   spelled-is d l i (suc n) h =
       ap (_∷_ (getD l i d)) (spelled-is d l (suc i) n (omega arith)) ∙ sym (drop-cons l i d (omega arith))
 
-  -- As many elements as it has are the whole list.
+  -- So many of its first elements, ..
+  spelled-take : (d : A) (l : List A) (i n : ℕ) → i + n ≤ length l → spelled d l i n ≡ take n (drop i l)
+  spelled-take d l i zero h = refl
+  spelled-take d l i (suc n) h =
+      ap (_∷_ (getD l i d)) (spelled-take d l (suc i) n (omega arith)) ∙ sym (ap (take (suc n)) (drop-cons l i d (omega arith)))
+
+  pub first-elements : (d : A) (l : List A) (n : ℕ) → n ≤ length l → spelled d l 0 n ≡ take n l
+  first-elements d l n h = spelled-take d l 0 n (omega arith)
+
+  -- .. and as many as it has are the whole list.
   pub whole : (d : A) (l : List A) (n : ℕ) → length l ≡ n → spelled d l 0 n ≡ l
   whole d l n h = spelled-is d l 0 n (omega arith)
 
 -- ---- states
 
--- As many numbers as a state has, read as a state, are that state's numbers.
-pub numbers-of-state : (numbers : List ℕ) → length numbers ≡ stateWidth → stateNumbers (stateOf numbers) ≡ numbers
-unfolding stateNumbers stateOf soilOf
-numbers-of-state numbers h = whole 0 numbers stateWidth h
+-- How many numbers a kept state and the current one have.
+pub kept-of-length : (s : State) → length (keptNumbers s) ≡ keptWidth
+unfolding keptNumbers
+kept-of-length s = refl
 
--- A state of four pools is read back from its numbers.
-pub state-of-numbers : (s : State) → length (s .soil .pools) ≡ 4 → stateOf (stateNumbers s) ≡ s
-unfolding stateNumbers stateOf soilOf
-state-of-numbers s h =
+pub state-of-length : (s : State) → length (stateNumbers s) ≡ stateWidth
+unfolding stateNumbers keptNumbers
+state-of-length s = refl
+
+-- A state by its eleven numbers.
+abbrev byNumbers : (ℕ → ℕ) → ℕ → State
+byNumbers number kept =
+    record {
+      soil =
+          record {
+            clay = number 0;
+            depth = number 1;
+            kind = number 2;
+            pools = grams (number 3) ∷ grams (number 4) ∷ grams (number 5) ∷ grams (number 6) ∷ [];
+            iom = grams (number 7);
+          };
+      deficit = record { 0 = number 8 };
+      months = number 9;
+      co2 = grams (number 10);
+      kept = kept;
+    }
+
+-- Eleven equal numbers are one state.
+module _ (f g : ℕ → ℕ) (same : (c : ℕ) → c < keptWidth → f c ≡ g c) (kept : ℕ) where
+  same-numbers : byNumbers f kept ≡ byNumbers g kept
+  same-numbers = λ i. record {
+    soil =
+        record {
+          clay = same 0 (lit< tt) i;
+          depth = same 1 (lit< tt) i;
+          kind = same 2 (lit< tt) i;
+          pools =
+              grams (same 3 (lit< tt) i) ∷ grams (same 4 (lit< tt) i) ∷ grams (same 5 (lit< tt) i)
+              ∷ grams (same 6 (lit< tt) i) ∷ [];
+          iom = grams (same 7 (lit< tt) i);
+        };
+    deficit = record { 0 = same 8 (lit< tt) i };
+    months = same 9 (lit< tt) i;
+    co2 = grams (same 10 (lit< tt) i);
+    kept = kept;
+  }
+
+-- What is read from a place on, by its numbers.
+read-by : (numbers : List ℕ) (place kept : ℕ) → stateFrom numbers place kept ≡ byNumbers (λ c. getD numbers (place + c) 0) kept
+unfolding stateFrom soilFrom
+read-by numbers place kept = rw (add-zero place)
+
+-- A state of four pools, by the numbers that are kept of it.
+kept-by : (s : State) (kept : ℕ) → length (s .soil .pools) ≡ 4 → byNumbers (λ c. getD (keptNumbers s) c 0) kept ≡ withKept kept s
+unfolding keptNumbers
+kept-by s kept h =
     ap
     (λ (pools : List Grams).
     record {
@@ -123,5 +201,113 @@ state-of-numbers s h =
       deficit = s .deficit;
       months = s .months;
       co2 = s .co2;
+      kept = kept;
     })
     (whole (grams 0) (s .soil .pools) 4 h)
+
+-- It is read so from the part that begins there.
+pub part-read : (numbers : List ℕ) (place kept : ℕ) → stateFrom (take (length numbers - place) (drop place numbers)) 0 kept ≡ stateFrom numbers place kept
+part-read numbers place kept =
+    ap (λ (part : List ℕ). stateFrom part 0 kept) (take-all (length numbers - place) (drop place numbers) (omega (arith, length-drop place numbers)))
+    ∙ read-by (drop place numbers) 0 kept
+    ∙ same-numbers _ (λ c. getD numbers (place + c) 0)
+    (λ c h. ap (λ (i : ℕ). getD (drop place numbers) i 0) (zero-add c) ∙ getD-drop place numbers c 0)
+    kept
+    ∙ sym (read-by numbers place kept)
+
+module _ (memory : List ℕ) (place : ℕ) (s : State) where
+  -- A state of four pools that was put is read back, whatever is kept beside it, ..
+  pub put-back :
+      (kept : ℕ) → length (s .soil .pools) ≡ 4 → place + keptWidth ≤ length memory
+      → stateFrom (sets memory place (keptNumbers s)) place kept ≡ withKept kept s
+  put-back kept four room =
+      read-by (sets memory place (keptNumbers s)) place kept
+      ∙ same-numbers _ (λ c. getD (keptNumbers s) c 0)
+      (λ c h. put-there memory place (keptNumbers s) c 0 (omega (arith, kept-of-length s)) (omega (arith, kept-of-length s)))
+      kept
+      ∙ kept-by s kept four
+
+  -- .. and one that lies elsewhere is read as before.
+  pub put-apart :
+      (other kept : ℕ) → ((c d : ℕ) → c < keptWidth → d < keptWidth → other + c ≡ place + d → ⊥)
+      → stateFrom (sets memory place (keptNumbers s)) other kept ≡ stateFrom memory other kept
+  put-apart other kept apart =
+      read-by (sets memory place (keptNumbers s)) other kept
+      ∙ same-numbers _ (λ c. getD memory (other + c) 0)
+      (λ c h. put-elsewhere memory place (keptNumbers s) (other + c) 0 (λ d below e. apart c d h (omega (arith, kept-of-length s)) e))
+      kept
+      ∙ sym (read-by memory other kept)
+
+-- ---- a field: the current state's numbers, and the memory of the kept ones
+
+-- Numbers read as the current state are that state's numbers.
+numbers-read : (numbers : List ℕ) → stateWidth ≤ length numbers → stateNumbers (stateOf numbers) ≡ take stateWidth numbers
+unfolding stateNumbers keptNumbers stateOf stateFrom soilFrom
+numbers-read numbers h = first-elements 0 numbers stateWidth h
+
+-- A field's state, of four pools, and its memory are read back.
+pub field-state : (s : State) (memory : List ℕ) → length (s .soil .pools) ≡ 4 → stateOf (fieldNumbers s memory) ≡ s
+unfolding stateNumbers keptNumbers stateOf stateFrom soilFrom
+field-state s memory h = kept-by s (s .kept) h
+
+pub field-memory : (s : State) (memory : List ℕ) → memoryOf (fieldNumbers s memory) ≡ memory
+unfolding stateNumbers keptNumbers
+field-memory s memory = refl
+
+-- The memory of the kept ones, as a part of a field that is lent and comes back.
+abbrev pub lent : List ℕ → List ℕ
+lent field = take (length field - stateWidth) (drop stateWidth field)
+
+abbrev pub returned : List ℕ → List ℕ → List ℕ
+returned field memory = putMid stateWidth (length field - stateWidth) field memory
+
+module _ (field : List ℕ) (all : length field ≡ fieldWidth) where
+  memory-size : length (memoryOf field) ≡ length field - stateWidth
+  memory-size = length-drop stateWidth field
+
+  -- All of it is lent, ..
+  pub lent-is : lent field ≡ memoryOf field
+  lent-is = take-all (length field - stateWidth) (memoryOf field) (omega (arith, memory-size))
+
+  pub lent-length : length (lent field) ≡ memoryWidth
+  lent-length = ap length lent-is ∙ memory-size ∙ rw all
+
+  -- .. and nothing lies after what comes back.
+  back-whole : (memory : List ℕ) → returned field memory ≡ take stateWidth field ++ memory
+  back-whole memory =
+      ap (λ (rest : List ℕ). take stateWidth field ++ (memory ++ rest))
+      (drop-of-length-le (memoryOf field) {i = length field - stateWidth} (omega (arith, memory-size)))
+      ∙ ap (λ (l : List ℕ). take stateWidth field ++ l) (append-nil memory)
+
+  first-twelve : length (take stateWidth field) ≡ stateWidth
+  first-twelve = length-take-le stateWidth field (omega arith)
+
+  pub back-length : (memory : List ℕ) → stateWidth ≤ length (returned field memory)
+  back-length memory = rw (back-whole memory) (omega (arith, first-twelve, length-append {A = ℕ} (take stateWidth field) memory))
+
+  -- Come back unchanged it leaves the field as it was, ..
+  pub back-same : {memory : List ℕ} → memory ≡ lent field → returned field memory ≡ field
+  back-same {memory} is =
+      back-whole memory ∙ ap (λ (l : List ℕ). take stateWidth field ++ l) (is ∙ lent-is) ∙ take-append-drop stateWidth field
+
+  -- .. and a state that is put then is the field's, with that memory.
+  pub field-moved : (memory : List ℕ) (s : State) → sets (returned field memory) 0 (stateNumbers s) ≡ fieldNumbers s memory
+  field-moved memory s =
+      ap (λ (l : List ℕ). sets l 0 (stateNumbers s)) (back-whole memory)
+      ∙ sets-eq (stateNumbers s) (take stateWidth field ++ memory) 0
+      (omega (arith, state-of-length s, first-twelve, length-append {A = ℕ} (take stateWidth field) memory))
+      ∙ ap (λ (l : List ℕ). stateNumbers s ++ l)
+      (ap (λ (n : ℕ). drop n (take stateWidth field ++ memory)) (zero-add _ ∙ state-of-length s)
+      ∙ drop-at (take stateWidth field) memory stateWidth first-twelve)
+
+  -- A state put in a field leaves the kept ones, ..
+  pub field-put : (s : State) → sets field 0 (stateNumbers s) ≡ fieldNumbers s (memoryOf field)
+  field-put s =
+      ap (λ (l : List ℕ). sets l 0 (stateNumbers s)) (sym (back-same refl))
+      ∙ field-moved (lent field) s
+      ∙ ap (fieldNumbers s) lent-is
+
+  -- .. and put back as it was it leaves all as it was.
+  pub field-same : fieldNumbers (stateOf field) (memoryOf field) ≡ field
+  field-same =
+      ap (λ (l : List ℕ). l ++ memoryOf field) (numbers-read field (omega arith)) ∙ take-append-drop stateWidth field

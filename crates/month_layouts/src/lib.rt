@@ -3,22 +3,32 @@
 ghost use mathlib.Core.Path.{_≡_};
 ghost use Prim.Native.Nat.{_≤_};
 ghost use lib.ListN.{length};
-ghost use Rattle.month_layouts.specs.Layouts.{soilWidth, stateWidth};
-ghost use Rattle.month_layouts.specs.Layouts.{soilOf, stateOf, stateNumbers};
+ghost use lib.Seq.{sets};
+ghost use Rattle.month_layouts.specs.Layouts.{soilWidth, keptWidth, stateWidth};
+ghost use Rattle.month_layouts.specs.Layouts.{soilFrom, stateFrom, stateOf};
+ghost use Rattle.month_layouts.specs.Layouts.{keptNumbers, stateNumbers};
 use month_state::Soil;
 use month_state::State;
 use number_units::Grams;
 use number_units::Parts;
 
-// How many numbers each has.
+// How many numbers each has: a soil, a state as it is kept, the current one, which has beside it
+// how many are kept, the memory of the kept ones, and a field, which is the current state and that
+// memory.
 pub const SOIL_WIDTH: usize = 8;
 
-pub const STATE_WIDTH: usize = 11;
+pub const KEPT_WIDTH: usize = 11;
 
-// A soil from its numbers.
+pub const STATE_WIDTH: usize = KEPT_WIDTH + 1;
+
+pub const MEMORY_WIDTH: usize = KEPT_WIDTH * 24;
+
+pub const FIELD_WIDTH: usize = STATE_WIDTH + MEMORY_WIDTH;
+
+// The soil that memory begins with.
 pub fn soil_of(numbers: &[u64]) -> Soil
     requires { ⌜ soilWidth ≤ length (now numbers) ⌝ }
-    ensures { λ r. ⌜ r ≡ soilOf (now (numbers .entry)) ⌝ }
+    ensures { λ r. ⌜ r ≡ soilFrom (now (numbers .entry)) 0 ⌝ }
 {
     let dpm = numbers[3];
     let rpm = numbers[4];
@@ -33,10 +43,10 @@ pub fn soil_of(numbers: &[u64]) -> Soil
     }
 }
 
-// A state from its numbers.
-pub fn state_of(numbers: &[u64]) -> State
-    requires { ⌜ length (now numbers) ≡ stateWidth ⌝ }
-    ensures { λ r. ⌜ r ≡ stateOf (now (numbers .entry)) ⌝ }
+// The state as it is kept that memory begins with, with so many kept beside it.
+pub fn kept_of(numbers: &[u64], kept: u64) -> State
+    requires { ⌜ keptWidth ≤ length (now numbers) ⌝ }
+    ensures { λ r. ⌜ r ≡ stateFrom (now (numbers .entry)) 0 kept ⌝ }
 {
     let soil = soil_of(numbers);
     State {
@@ -44,13 +54,23 @@ pub fn state_of(numbers: &[u64]) -> State
         deficit: Parts(numbers[8]),
         months: numbers[9],
         co2: Grams(numbers[10]),
+        kept,
     }
 }
 
-// The numbers of a state, written over those that the memory had.
-pub fn put_state(numbers: &mut [u64], s: State)
-    requires { ⌜ length (now numbers) ≡ stateWidth ⌝ }
-    ensures { λ r. ⌜ now (numbers .exit) ≡ stateNumbers s ⌝ }
+// The current state that memory begins with.
+pub fn state_of(numbers: &[u64]) -> State
+    requires { ⌜ stateWidth ≤ length (now numbers) ⌝ }
+    ensures { λ r. ⌜ r ≡ stateOf (now (numbers .entry)) ⌝ }
+{
+    let kept = numbers[KEPT_WIDTH];
+    kept_of(numbers, kept)
+}
+
+// The numbers that are kept of a state, written at the start of memory. Everything else stays.
+pub fn put_kept(numbers: &mut [u64], s: State)
+    requires { ⌜ keptWidth ≤ length (now numbers) ⌝ }
+    ensures { λ r. ⌜ now (numbers .exit) ≡ sets (now (numbers .entry)) 0 (keptNumbers s) ⌝ }
 {
     let soil = s.soil;
     let pools = soil.pools;
@@ -65,4 +85,13 @@ pub fn put_state(numbers: &mut [u64], s: State)
     numbers[8] = s.deficit.0;
     numbers[9] = s.months;
     numbers[10] = s.co2.0;
+}
+
+// The numbers of the current state, written at the start of memory. Everything else stays.
+pub fn put_state(numbers: &mut [u64], s: State)
+    requires { ⌜ stateWidth ≤ length (now numbers) ⌝ }
+    ensures { λ r. ⌜ now (numbers .exit) ≡ sets (now (numbers .entry)) 0 (stateNumbers s) ⌝ }
+{
+    put_kept(numbers, s);
+    numbers[KEPT_WIDTH] = s.kept;
 }

@@ -18,7 +18,7 @@ use Rattle.month_state.specs.declared.State.{State}
 use Rattle.month_state.specs.declared.Weather.{Weather}
 use Rattle.month_state.specs.declared.Land.{Land}
 use Rattle.month_state.specs.declared.Entries.{Entries}
-use Rattle.month_state.specs.State.{carbonCeiling, monthLimit, newState}
+use Rattle.month_state.specs.State.{carbonCeiling, monthLimit, keptLimit, newState}
 use Rattle.month_state.proofs.Tests.{either-true, either-false, false-either}
 use Rattle.month_refusals.specs.declared.Check.the-variants.{Pass, Refuse}
 use Rattle.month_refusals.specs.declared.Refusal.the-variants.{Turn}
@@ -46,6 +46,7 @@ pub record Sound (s : State) : Type 0 where
   pub soil : SoundSoil (s .soil)
   pub deficit : s .deficit .0 ≤ maxDeficit (s .soil .clay) (s .soil .depth)
   pub months : s .months ≤ monthLimit
+  pub kept : s .kept ≤ keptLimit
   pub carbon : s .co2 .0 + total (s .soil .pools) ≤ 1000000000 + 200000000 * s .months
 
 -- A signed number is in a range.
@@ -139,32 +140,34 @@ sound-state s h =
     let bounds = passes-one _ _ (parts .1) in
     let first = either-false _ _ (bounds .0) in
     let second = either-false _ _ (first .1) in
+    let third = either-false _ _ (second .1) in
     record {
       soil = sound-soil (s .soil) (parts .0);
       deficit = ltb-false _ _ (first .0);
       months = ltb-false _ _ (second .0);
-      carbon = ltb-false _ _ (second .1);
+      kept = ltb-false _ _ (third .0);
+      carbon = ltb-false _ _ (third .1);
     }
 
 -- 10 alone, of a state whose soil is sound or not.
 pub in-bounds : (s : State) → s .deficit .0 ≤ maxDeficit (s .soil .clay) (s .soil .depth) → s .months ≤ monthLimit
-    → s .co2 .0 + total (s .soil .pools) ≤ 1000000000 + 200000000 * s .months → boundsPassed s ≡ false
+    → s .kept ≤ keptLimit → s .co2 .0 + total (s .soil .pools) ≤ 1000000000 + 200000000 * s .months → boundsPassed s ≡ false
 unfolding boundsPassed
-in-bounds s d m c = false-either (le-ltb _ _ d) (false-either (le-ltb _ _ m) (le-ltb _ _ c))
+in-bounds s d m k c = false-either (le-ltb _ _ d) (false-either (le-ltb _ _ m) (false-either (le-ltb _ _ k) (le-ltb _ _ c)))
 
 pub state-passes : (s : State) → Sound s → stateCheck s ≡ Pass
 unfolding firstOf boundsAsked
 state-passes s h =
     parts-state s (soil-passes (s .soil) (h .soil))
-    (one-passes _ (in-bounds s (h .deficit) (h .months) (h .carbon)) refl)
+    (one-passes _ (in-bounds s (h .deficit) (h .months) (h .kept) (h .carbon)) refl)
 
--- The new state of an accepted soil passes 4 to 7 and 10: D and the CO2 to date are 0.
+-- The new state of an accepted soil passes 4 to 7 and 10: D, the CO2 to date and the kept ones are 0.
 pub new-passes : (s : Soil) → soilCheck s ≡ Pass → stateCheck (newState s) ≡ Pass
 unfolding newState
 new-passes s h =
     let soil = sound-soil s h in
     state-passes (newState s)
-    (record { soil = soil; deficit = omega arith; months = omega arith; carbon = omega (arith, soil .pools) })
+    (record { soil = soil; deficit = omega arith; months = omega arith; kept = omega arith; carbon = omega (arith, soil .pools) })
 
 -- ---- signed numbers
 

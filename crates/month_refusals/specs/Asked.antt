@@ -29,6 +29,7 @@ use Rattle.month_refusals.specs.declared.Refusal.the-variants.{
   Ceiling,
   TableForm,
   Source,
+  NoneKept,
 }
 
 -- ---- numbers
@@ -54,6 +55,7 @@ refusalNumber Additions = 16
 refusalNumber Ceiling = 17
 refusalNumber TableForm = 18
 refusalNumber Source = 19
+refusalNumber NoneKept = 20
 
 -- The number of what a check finds, 0 where it finds nothing.
 abbrev pub checkNumber : Check → ℕ
@@ -81,12 +83,13 @@ unfoldable pub firstOf : List Asked → Check
 firstOf [] = Pass
 firstOf (asked ∷ later) = given (asked .applies) (asked .refusal) (firstOf later)
 
--- Document 01's list of refusals in checking order, with change 2026-01's: 18 before a table line's
--- 13 and 14, and 19 "after 14". Each call asks its part of it.
+-- Document 01's list of refusals in checking order, with document 02's: 18 before a table line's 13
+-- and 14, 19 "after 14" (2026-01), and 20 "before any other check" (2026-02). Each call asks its
+-- part of it.
 abbrev pub checkingOrder : List Refusal
 checkingOrder =
-    Length ∷ Form ∷ Rows ∷ Clay ∷ Depth ∷ Kind ∷ Carbon ∷ Room ∷ Years ∷ Bounds ∷ Turn ∷ MonthLimit
-    ∷ TableForm ∷ Temperature ∷ Water ∷ Source ∷ Cover ∷ Additions ∷ Ceiling ∷ []
+    NoneKept ∷ Length ∷ Form ∷ Rows ∷ Clay ∷ Depth ∷ Kind ∷ Carbon ∷ Room ∷ Years ∷ Bounds ∷ Turn
+    ∷ MonthLimit ∷ TableForm ∷ Temperature ∷ Water ∷ Source ∷ Cover ∷ Additions ∷ Ceiling ∷ []
 
 -- What is asked is part of an order: its refusals stand in the order one after another, some left
 -- out.

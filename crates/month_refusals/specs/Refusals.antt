@@ -13,7 +13,7 @@ use Rattle.month_state.specs.declared.State.{State}
 use Rattle.month_state.specs.declared.Weather.{Weather}
 use Rattle.month_state.specs.declared.Land.{Land}
 use Rattle.month_state.specs.declared.Entries.{Entries}
-use Rattle.month_state.specs.State.{carbonCeiling, monthLimit}
+use Rattle.month_state.specs.State.{carbonCeiling, monthLimit, keptLimit}
 use Rattle.month_refusals.specs.declared.Check.{Check}
 use Rattle.month_refusals.specs.declared.Refusal.the-variants.{
   Clay,
@@ -50,13 +50,14 @@ kindOther s = not (eqb (s .kind) 1 || (eqb (s .kind) 2 || eqb (s .kind) 3))
 unfoldable pub carbonAbove : Soil → Bool
 carbonAbove s = ltb carbonCeiling (total (s .pools)) || ltb carbonCeiling (s .iom .0)
 
--- 10: a state has D outside 0 to M, more than 120,000 months, or CO2 and active pools together
--- above 1,000,000,000 + 200,000,000 × months.
+-- 10: a state has D outside 0 to M, more than 120,000 months, "a kept count above 24" (change
+-- 2026-02), or CO2 and active pools together above 1,000,000,000 + 200,000,000 × months.
 unfoldable pub boundsPassed : State → Bool
 boundsPassed s =
     ltb (maxDeficit (s .soil .clay) (s .soil .depth)) (s .deficit .0)
     || (ltb monthLimit (s .months)
-    || ltb (1000000000 + 200000000 * s .months) (s .co2 .0 + total (s .soil .pools)))
+    || (ltb keptLimit (s .kept)
+    || ltb (1000000000 + 200000000 * s .months) (s .co2 .0 + total (s .soil .pools))))
 
 -- 11: the month's number isn't months done plus 1.
 unfoldable pub outOfTurn : State → ℕ → Bool

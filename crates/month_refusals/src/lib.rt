@@ -36,6 +36,7 @@ pub enum Refusal {
     Ceiling,
     TableForm,
     Source,
+    NoneKept,
 }
 
 // What a check finds: nothing, or the first refusal that applies.
@@ -74,6 +75,7 @@ pub fn refusal_number(r: Refusal) -> u64
         Refusal::Ceiling => 17,
         Refusal::TableForm => 18,
         Refusal::Source => 19,
+        Refusal::NoneKept => 20,
     }
 }
 
@@ -155,8 +157,8 @@ pub fn check_soil(s: Soil) -> Check
     Check::Pass
 }
 
-// 10: D is outside 0 to M, the months are too many, or CO2 and active pools together are above
-// their bound. The CO2 is tested before the pools are added to it.
+// 10: D is outside 0 to M, the months or the kept ones are too many, or CO2 and active pools
+// together are above their bound. The CO2 is tested before the pools are added to it.
 fn bounds_passed(s: State) -> bool
     requires { ⌜ soilCheck (s .soil) ≡ Pass ⌝ }
     ensures { λ r. ⌜ r ≡ boundsPassed s ⌝ }
@@ -165,11 +167,15 @@ fn bounds_passed(s: State) -> bool
     let deficit = s.deficit;
     let months = s.months;
     let co2 = s.co2;
+    let kept = s.kept;
     let largest = max_deficit(soil.clay, soil.depth);
     if largest.0 < deficit.0 {
         return true;
     }
     if State::MONTH_LIMIT < months {
+        return true;
+    }
+    if State::KEPT_LIMIT < kept {
         return true;
     }
     let bound = 1_000_000_000 + 200_000_000 * months;

@@ -1,3 +1,4 @@
 pub mod Counting
+pub mod Kept
 pub mod Signed
 pub mod Tests

@@ -3,7 +3,7 @@ ghost use mathlib.Core.Path.{_≡_};
 ghost use Prim.Native.Nat.{_<_, _^_};
 ghost use lib.IntN.{pos, natAbs};
 ghost use lib.Signed.{_≤ℤ_};
-ghost use Rattle.month_state.specs.State.{newState, fivePools};
+ghost use Rattle.month_state.specs.State.{newState, fivePools, oneMoreKept};
 use number_units::Grams;
 use number_units::Parts;
 use step_pools::total;
@@ -18,12 +18,14 @@ pub struct Soil {
     pub iom: Grams,
 }
 
-// A state: the soil, the deficit D, the months done and the CO2 to date.
+// A state: the soil, the deficit D, the months done and the CO2 to date; and how many of the states
+// before its latest months are kept (change 2026-02 of document 02). These lie in lent memory.
 pub struct State {
     pub soil: Soil,
     pub deficit: Parts,
     pub months: u64,
     pub co2: Grams,
+    pub kept: u64,
 }
 
 // A month's weather. `source` is document 02's "fourth number", the kind of the evaporation: 0 for
@@ -65,8 +67,10 @@ impl State {
     pub const CARBON_CEILING: u64 = 1_000_000_000;
     // The months that a state may have done.
     pub const MONTH_LIMIT: u64 = 120_000;
+    // The most states that are kept beside the current one.
+    pub const KEPT_LIMIT: u64 = 24;
 
-    // A new state: 0 for the deficit, the months done and the CO2 to date.
+    // A new state: 0 for the deficit, the months done and the CO2 to date, and none kept.
     pub fn new(soil: Soil) -> State
         ensures { λ r. ⌜ r ≡ newState soil ⌝ }
     {
@@ -75,6 +79,7 @@ impl State {
             deficit: Parts(0),
             months: 0,
             co2: Grams(0),
+            kept: 0,
         }
     }
 }
@@ -88,6 +93,16 @@ pub fn five_pools(s: State) -> Grams
     let pools = soil.pools;
     let active = total(pools);
     Grams(active.0 + soil.iom.0)
+}
+
+// How many states are kept after one month more: past the limit the oldest goes.
+pub fn one_more_kept(kept: u64) -> u64
+    ensures { λ r. ⌜ r ≡ oneMoreKept kept ⌝ }
+{
+    if kept < State::KEPT_LIMIT {
+        return kept + 1;
+    }
+    State::KEPT_LIMIT
 }
 
 // A signed number that is not below 0, as one without a sign.

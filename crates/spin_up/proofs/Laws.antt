@@ -10,6 +10,7 @@ use lib.Dec.{ltb}
 use lib.IntN.{ℤ}
 use lib.ListN.{length}
 use Rattle.month_state.specs.declared.State.{State}
+use Rattle.month_state.specs.State.{keptAside}
 use Rattle.list_rows.specs.Rows.{weatherWidth, landWidth}
 use Rattle.month_refusals.specs.declared.Check.{Check}
 use Rattle.month_refusals.specs.declared.Check.the-variants.{Pass, Refuse}
@@ -49,7 +50,7 @@ module _ (left : ℕ) (weather land : List ℤ) (before : ℕ) (starting s : Sta
   stops refusal place h = rw h
 
   pub settled : yearAnswer weather land s ≡ answers.Finished → settles s (yearState weather land s) ≡ true
-      → years (suc left) weather land before starting s ≡ record { answer = Settled (before + 1); state = yearState weather land s }
+      → years (suc left) weather land before starting s ≡ record { answer = Settled (before + 1); state = keptAside (yearState weather land s) }
   unfolding years
   settled done h = rw (done, h)
 

@@ -8,6 +8,7 @@ use Prim.Native.Nat.{ℕ, zero, suc, _+_, _*_, _<_}
 use native.Mathlib.Omega.{arith}
 use lib.IntN.{ℤ}
 use Rattle.month_state.specs.declared.State.{State}
+use Rattle.month_state.specs.State.{keptAside}
 use Rattle.month_refusals.specs.declared.Check.{Check}
 use Rattle.month_refusals.specs.declared.Check.the-variants.{Pass, Refuse}
 use Rattle.month_refusals.specs.declared.Refusal.{Refusal}
@@ -21,7 +22,7 @@ use Rattle.list_run.proofs.Months as months-of
 use Rattle.spin_up.specs.declared.SpinAnswer.{SpinAnswer}
 use Rattle.spin_up.specs.declared.SpinAnswer.the-variants.{Settled, Unsettled, Refused}
 use Rattle.spin_up.specs.declared.SpinOutcome.{SpinOutcome}
-use Rattle.spin_up.specs.SpinUp.{settles, yearOutcome, yearAnswer, yearState, years, beforeYears, spinChecked, spinUp, spinYears}
+use Rattle.spin_up.specs.SpinUp.{settles, yearOutcome, yearAnswer, yearState, years, beforeYears, spinChecked, spinUp, spinYears, spinEnd}
 use Rattle.spin_up.specs.Reached.{afterYears, answerAfter, settlesAfter, Passed, SettledIn, UnsettledIn, RefusedIn}
 use Rattle.spin_up.proofs.Laws.{stops, settled, goes-on}
 
@@ -39,13 +40,13 @@ year-ran weather land s sound h = all-ran weather land (months-of.course weather
 -- So many years from the state s, `before` being run before it, and their outcome, one year at a time.
 pub data Course (weather land : List ℤ) (starting : State) : ℕ → ℕ → State → SpinOutcome → Type 0 where
   none-left :
-      {before : ℕ} {s : State} → Course weather land starting zero before s (record { answer = Unsettled before; state = s })
+      {before : ℕ} {s : State} → Course weather land starting zero before s (record { answer = Unsettled before; state = keptAside s })
   refused :
       {left before : ℕ} {s : State} (reason : Refusal) (month : ℕ) → yearAnswer weather land s ≡ answers.Refused reason month
       → Course weather land starting (suc left) before s (record { answer = Refused reason (12 * before + month); state = starting })
   settles-now :
       {left before : ℕ} {s : State} → yearAnswer weather land s ≡ answers.Finished → settles s (yearState weather land s) ≡ true
-      → Course weather land starting (suc left) before s (record { answer = Settled (before + 1); state = yearState weather land s })
+      → Course weather land starting (suc left) before s (record { answer = Settled (before + 1); state = keptAside (yearState weather land s) })
   year :
       {left before : ℕ} {s : State} {end : SpinOutcome} → yearAnswer weather land s ≡ answers.Finished
       → settles s (yearState weather land s) ≡ false → Course weather land starting left (suc before) (yearState weather land s) end
@@ -215,9 +216,9 @@ module _ (s : State) (weather land : List ℤ) (allowed : ℕ) where
   when-refused (outside-years reason) h = refl
   when-refused started h = refused-in weather land whole h .state
 
-  pub refused-keeps : (refusal : Refusal) (place : ℕ) → spinUp s weather land allowed .answer ≡ Refused refusal place
+  pub refused-returns : (refusal : Refusal) (place : ℕ) → spinUp s weather land allowed .answer ≡ Refused refusal place
       → spinUp s weather land allowed .state ≡ s
-  refused-keeps refusal place h = when-refused begun h
+  refused-returns refusal place h = when-refused begun h
 
   -- .. and a place other than 0 is that of a month, counted over all the years.
   when-a-month : {end : SpinOutcome} {refusal : Refusal} {place : ℕ} → Begun s the-years end
@@ -229,20 +230,21 @@ module _ (s : State) (weather land : List ℤ) (allowed : ℕ) where
       → RefusedIn weather land 0 allowed s s refusal (suc place) (spinUp s weather land allowed .state)
   refused-month refusal place h = when-a-month begun h
 
-  -- The state is that after the years that the answer tells.
+  -- The state is that after the years that the answer tells, with none kept unless it is refused.
   reached : (answer : SpinAnswer) → spinUp s weather land allowed .answer ≡ answer
-      → spinUp s weather land allowed .state ≡ afterYears (spinYears answer) weather land s
+      → spinUp s weather land allowed .state ≡ spinEnd answer (afterYears (spinYears answer) weather land s)
   unfolding afterYears
   reached (Settled count) h =
       let at = settled-first count h in
       let is : count ≡ suc (at .earlier) = omega (arith, at .count) in
-      at .state ∙ ap (λ n. afterYears n weather land s) (sym is)
+      at .state ∙ ap (λ n. keptAside (afterYears n weather land s)) (sym is)
   reached (Unsettled count) h =
       let at = unsettled-all count h in
       let is : count ≡ allowed = omega (arith, at .count) in
-      at .state ∙ ap (λ n. afterYears n weather land s) (sym is)
-  reached (Refused refusal place) h = refused-keeps refusal place h
+      at .state ∙ ap (λ n. keptAside (afterYears n weather land s)) (sym is)
+  reached (Refused refusal place) h = refused-returns refusal place h
 
   pub years-reached : spinUp s weather land allowed .state
-      ≡ afterYears (spinYears (spinUp s weather land allowed .answer)) weather land s
+      ≡ spinEnd (spinUp s weather land allowed .answer)
+      (afterYears (spinYears (spinUp s weather land allowed .answer)) weather land s)
   years-reached = reached (spinUp s weather land allowed .answer) refl

@@ -6,6 +6,7 @@ use mathlib.Core.List.{List}
 use Prim.Native.Nat.{ℕ, zero, suc, _+_, _*_, _≤_, _<_}
 use lib.IntN.{ℤ}
 use Rattle.month_state.specs.declared.State.{State}
+use Rattle.month_state.specs.State.{keptAside}
 use Rattle.month_refusals.specs.declared.Refusal.{Refusal}
 use Rattle.list_run.specs.declared.ListAnswer.{ListAnswer}
 use Rattle.list_run.specs.declared.ListAnswer.the-variants as answers
@@ -30,7 +31,8 @@ pub record Passed (weather land : List ℤ) (s : State) (count : ℕ) : Type 0 w
   pub unsettled : (k : ℕ) → k < count → settlesAfter k weather land s ≡ false
 
 -- Settled with the years run, `before` being run before the state s: at most `left` more. The last
--- of them settles and no earlier one does, and the state reached is that after them.
+-- of them settles and no earlier one does, and the state reached is that after them, with none
+-- kept.
 pub record SettledIn (weather land : List ℤ) (before left : ℕ) (s : State) (years : ℕ)
     (reached : State) : Type 0 where
   pub earlier : ℕ
@@ -39,17 +41,18 @@ pub record SettledIn (weather land : List ℤ) (before left : ℕ) (s : State) (
   pub passed : Passed weather land s earlier
   pub finished : answerAfter earlier weather land s ≡ answers.Finished
   pub settles : settlesAfter earlier weather land s ≡ true
-  pub state : reached ≡ afterYears (suc earlier) weather land s
+  pub state : reached ≡ keptAside (afterYears (suc earlier) weather land s)
 
--- Unsettled: all the years ran, none of them settled, and the state reached is that after them.
+-- Unsettled: all the years ran, none of them settled, and the state reached is that after them,
+-- with none kept.
 pub record UnsettledIn (weather land : List ℤ) (before left : ℕ) (s : State) (years : ℕ)
     (reached : State) : Type 0 where
   pub count : years ≡ before + left
   pub passed : Passed weather land s left
-  pub state : reached ≡ afterYears left weather land s
+  pub state : reached ≡ keptAside (afterYears left weather land s)
 
 -- Refused at a month: the years before its year ran and did not settle, the place counts the months
--- over all years, and the state is the starting state.
+-- over all years, and the state is the starting state with its kept ones.
 pub record RefusedIn
     (weather land : List ℤ)
     (before left : ℕ)

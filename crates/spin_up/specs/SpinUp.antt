@@ -7,7 +7,7 @@ use lib.Dec.{leb, ltb, eqb}
 use lib.IntN.{ℤ}
 use lib.ListN.{length}
 use Rattle.month_state.specs.declared.State.{State}
-use Rattle.month_state.specs.State.{fivePools}
+use Rattle.month_state.specs.State.{fivePools, keptAside}
 use Rattle.list_rows.specs.Rows.{weatherWidth, landWidth}
 use Rattle.month_refusals.specs.declared.NumberAndPlace.{NumberAndPlace}
 use Rattle.month_refusals.specs.declared.Check.{Check}
@@ -41,9 +41,10 @@ yearAnswer weather land s = yearOutcome weather land s .answer
 abbrev pub yearState : List ℤ → List ℤ → State → State
 yearState weather land s = yearOutcome weather land s .state
 
--- Settled with the years run and the state reached, or on with the later years.
+-- Settled with the years run and the state reached, or on with the later years. "A spin-up ends
+-- with none kept unless refused" (change 2026-02).
 abbrev pub yearEnd : Bool → ℕ → State → SpinOutcome → SpinOutcome
-yearEnd true years s later = record { answer = Settled years; state = s }
+yearEnd true years s later = record { answer = Settled years; state = keptAside s }
 yearEnd false years s later = later
 
 -- After a year that began in the state s, `before` years being run before it: refused, with the
@@ -57,7 +58,8 @@ afterYear (answers.Refused refusal place) end s before starting later =
 -- So many years more, `before` years being run. If no year settles, it is unsettled with all the
 -- years.
 unfoldable pub years : ℕ → List ℤ → List ℤ → ℕ → State → State → SpinOutcome
-years zero weather land before starting s = record { answer = Unsettled before; state = s }
+years zero weather land before starting s =
+    record { answer = Unsettled before; state = keptAside s }
 years (suc left) weather land before starting s =
     afterYear (yearAnswer weather land s) (yearState weather land s) s before starting
     (λ end. years left weather land (suc before) starting end)
@@ -126,3 +128,9 @@ abbrev pub spinYears : SpinAnswer → ℕ
 spinYears (Settled years) = years
 spinYears (Unsettled years) = years
 spinYears (Refused refusal place) = 0
+
+-- A state as a spin-up ends with it: none kept, unless it is refused.
+abbrev pub spinEnd : SpinAnswer → State → State
+spinEnd (Settled years) s = keptAside s
+spinEnd (Unsettled years) s = keptAside s
+spinEnd (Refused refusal place) s = s

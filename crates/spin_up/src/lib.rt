@@ -4,13 +4,14 @@ ghost use mathlib.Core.Path.{_≡_};
 ghost use mathlib.Core.List.{_++_};
 ghost use Prim.Native.Nat.{_*_, _≤_};
 ghost use lib.ListN.{length};
+ghost use Rattle.month_state.specs.State.{keptAside};
 ghost use Rattle.list_rows.specs.Rows.{weatherWidth, landWidth};
 ghost use Rattle.month_refusals.specs.declared.Check.the-variants.{Pass};
 ghost use Rattle.month_refusals.specs.Asked.{Finds, told, Exactly};
 ghost use Rattle.month_refusals.specs.Refusals.{boundsAsked, soilCheck, stateCheck};
 ghost use Rattle.spin_up.specs.SpinUp.{settles, yearOutcome, years, allowedAsked};
 ghost use Rattle.spin_up.specs.SpinUp.{beforeYears, spinAsked, spinUp};
-ghost use Rattle.spin_up.specs.SpinUp.{spinFound, spinTold, spinYears};
+ghost use Rattle.spin_up.specs.SpinUp.{spinFound, spinTold, spinYears, spinEnd};
 ghost use Rattle.spin_up.specs.Reached.{afterYears};
 use list_rows::LAND_WIDTH;
 use list_rows::WEATHER_WIDTH;
@@ -32,7 +33,8 @@ pub enum SpinAnswer {
     Refused(Refusal, u64),
 }
 
-// The answer, with the state beside it: the state reached, or after a refusal the starting state.
+// The answer, with the state beside it: the state reached, with none kept, or after a refusal the
+// starting state.
 pub struct SpinOutcome {
     pub answer: SpinAnswer,
     pub state: State,
@@ -62,6 +64,22 @@ fn year(s: State, weather: &[i64], land: &[i64]) -> ListOutcome
     run_months(s, weather, land, 0, 12, &mut rows)
 }
 
+// A state with none kept, as a spin-up ends with it.
+fn none_kept(s: State) -> State
+    ensures { λ r. ⌜ r ≡ keptAside s ⌝ }
+{
+    let soil = s.soil;
+    let deficit = s.deficit;
+    let co2 = s.co2;
+    State {
+        soil,
+        deficit,
+        months: s.months,
+        co2,
+        kept: 0,
+    }
+}
+
 // The years, one after another until one settles or is refused.
 fn run_years(s: State, weather: &[i64], land: &[i64], allowed: u64) -> SpinOutcome
     requires state { ⌜ stateCheck s ≡ Pass ⌝ }
@@ -85,7 +103,7 @@ fn run_years(s: State, weather: &[i64], land: &[i64], allowed: u64) -> SpinOutco
         if settles(state, end) {
             return SpinOutcome {
                 answer: SpinAnswer::Settled(before + 1),
-                state: end,
+                state: none_kept(end),
             };
         }
         state = end;
@@ -93,7 +111,7 @@ fn run_years(s: State, weather: &[i64], land: &[i64], allowed: u64) -> SpinOutco
     }
     SpinOutcome {
         answer: SpinAnswer::Unsettled(before),
-        state,
+        state: none_kept(state),
     }
 }
 
@@ -128,8 +146,8 @@ fn check_spin_up(s: State, weather: &[i64], land: &[i64], allowed: u64) -> Check
     }
 }
 
-// A spin-up of at most the years that are allowed. The state is that after the years run, and each
-// refusal is given exactly where it is the first that applies.
+// A spin-up of at most the years that are allowed. The state is that after the years run, with none
+// kept unless it is refused, and each refusal is given exactly where it is the first that applies.
 pub fn spin_up(s: State, weather: &[i64], land: &[i64], allowed: u64) -> SpinOutcome
     ensures outcome { λ r. ⌜ r ≡ spinUp s (now (weather .entry)) (now (land .entry)) allowed ⌝ }
     ensures told { λ r. ⌜ spinTold (r .answer)
@@ -137,7 +155,8 @@ pub fn spin_up(s: State, weather: &[i64], land: &[i64], allowed: u64) -> SpinOut
     ensures exactly { λ r. ⌜ Exactly (spinAsked s (now (weather .entry)) (now (land .entry)) allowed)
         (spinFound (r .answer)) ⌝ }
     ensures years { λ r. ⌜ r .state
-        ≡ afterYears (spinYears (r .answer)) (now (weather .entry)) (now (land .entry)) s ⌝ }
+        ≡ spinEnd (r .answer)
+        (afterYears (spinYears (r .answer)) (now (weather .entry)) (now (land .entry)) s) ⌝ }
 {
     match check_spin_up(s, weather, land, allowed) {
         Check::Pass => run_years(s, weather, land, allowed),

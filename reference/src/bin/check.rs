@@ -1,5 +1,6 @@
 //! Asserts the known figures of document 01, the Rothamsted deficit table of 001 and January
-//! 1852 byte by byte; then demand 3 on long lists. Stops at the first that is wrong.
+//! 1852 byte by byte; then demand 3 on long lists, also with months taken back. Stops at the first
+//! that is wrong.
 
 use reference::book;
 use reference::exponential::{
@@ -12,6 +13,7 @@ use reference::model::{
 };
 use reference::recurrence::{
     carbon_closes, distance_every_q, distance_interval, q_highest, q_lowest, run_calls, Decision,
+    DemandThree, Remaining,
 };
 use reference::vectors::Draw;
 
@@ -22,6 +24,7 @@ fn main() {
     ceiling();
     survival_numbers();
     demand_three();
+    months_taken_back();
     println!("all figures hold");
 }
 
@@ -205,15 +208,7 @@ fn demand_three() {
         let mut calls = Vec::new();
         let mut number = 0;
         while number < 120_000 {
-            let mut entries = Entries {
-                temperature: draw.between(-80, 250),
-                rain: draw.between(0, 1200),
-                evaporation: draw.between(0, 1500),
-                source: draw.between(OPEN_PAN, EVAPOTRANSPIRATION),
-                cover: draw.between(0, 1),
-                plant: draw.between(0, 1_000_000),
-                manure: draw.between(0, 300_000),
-            };
+            let mut entries = drawn_entries(&mut draw);
             match draw.below(20) {
                 0 => calls.push((number + 2, entries)),
                 1 => {
@@ -252,6 +247,88 @@ fn demand_three() {
         println!(
             "demand 3 with {name}: {} calls, 120,000 accepted",
             calls.len()
+        );
+    }
+}
+
+fn drawn_entries(draw: &mut Draw) -> Entries {
+    Entries {
+        temperature: draw.between(-80, 250),
+        rain: draw.between(0, 1200),
+        evaporation: draw.between(0, 1500),
+        source: draw.between(OPEN_PAN, EVAPOTRANSPIRATION),
+        cover: draw.between(0, 1),
+        plant: draw.between(0, 1_000_000),
+        manure: draw.between(0, 300_000),
+    }
+}
+
+/// Demand 3 on lists of 60,000 acts with months taken back, a few at once and more than are kept:
+/// balance and distance over the months that remain, and the state in which these end alone.
+fn months_taken_back() {
+    let mut lowest = |n: u64, k: u64| allowed_range(n, k).0;
+    let mut highest = |n: u64, k: u64| allowed_range(n, k).1;
+    let survivals: [(&str, &mut dyn Survival); 3] = [
+        ("nearest S", &mut Nearest),
+        ("lowest S", &mut lowest),
+        ("highest S", &mut highest),
+    ];
+    let mut draw = Draw::new(2602);
+    for (name, survival) in survivals {
+        let soil = Soil {
+            pools: [100_000_000, 200_000_000, 50_000_000, 600_000_000],
+            ..rothamsted()
+        };
+        let mut list = Remaining::new(&soil);
+        let (mut acts, mut taken, mut none_kept, mut refused) = (0, 0, 0, 0);
+        while acts < 60_000 {
+            acts += 1;
+            let number = list.field.state.months as i128 + 1;
+            let mut entries = drawn_entries(&mut draw);
+            match draw.below(40) {
+                0 => refused += i32::from(list.month(number + 1, &entries, survival).is_err()),
+                1 => {
+                    entries.cover = 2;
+                    refused += i32::from(list.month(number, &entries, survival).is_err());
+                }
+                2 => {
+                    let sky = [entries.temperature, entries.rain, 400, entries.source];
+                    let land = [entries.cover, 1_000, 500].repeat(1 + draw.below(40) as usize);
+                    list.list(&sky, &land, survival).expect("nothing to refuse");
+                }
+                turn @ 3..=8 => {
+                    let backs = if turn == 3 {
+                        20 + draw.below(10)
+                    } else {
+                        1 + draw.below(4)
+                    };
+                    for _ in 0..backs {
+                        acts += 1;
+                        match list.take_back() {
+                            Ok(()) => taken += 1,
+                            Err(_) => none_kept += 1,
+                        }
+                    }
+                }
+                _ => {
+                    list.month(number, &entries, survival).expect("in turn");
+                }
+            }
+        }
+        assert!(taken > 0 && none_kept > 0 && refused > 0);
+        assert!(list.is_alone(survival), "the months that remain, {name}");
+        assert_eq!(
+            list.demand_three(survival),
+            DemandThree {
+                carbon_closes: true,
+                distance: Decision::Holds
+            },
+            "with {name}"
+        );
+        println!(
+            "demand 3 with {name} and months taken back: {acts} acts, {taken} months taken back, \
+             {none_kept} times none kept, {refused} months refused, {} months remain",
+            list.months.len()
         );
     }
 }

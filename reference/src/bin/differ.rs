@@ -40,6 +40,7 @@ extern "C" {
         result: *mut u64,
         result_len: usize,
     ) -> u64;
+    fn rothc_take_back(state: *mut u64, state_len: usize) -> u64;
     fn rothc_book(
         book: *const u8,
         book_len: usize,
@@ -126,6 +127,10 @@ impl Program for Library {
         }
     }
 
+    fn take_back(&mut self, state: &mut [u64]) -> u64 {
+        unsafe { rothc_take_back(state.as_mut_ptr(), state.len()) }
+    }
+
     fn book(&mut self, book: &[u8], out: &mut [u8], length: &mut u64) -> u64 {
         unsafe {
             rothc_book(
@@ -160,7 +165,11 @@ impl Program for Library {
 fn examples() -> std::io::Result<Vec<(String, Vec<u8>, Vec<u8>)>> {
     let folder = Path::new(env!("CARGO_MANIFEST_DIR")).join("../examples");
     let mut found = Vec::new();
-    for part in [folder.clone(), folder.join("refused"), folder.join("tables")] {
+    for part in [
+        folder.clone(),
+        folder.join("refused"),
+        folder.join("tables"),
+    ] {
         let mut books: Vec<PathBuf> = std::fs::read_dir(part)?
             .map(|entry| Ok(entry?.path()))
             .collect::<std::io::Result<_>>()?;
@@ -201,6 +210,8 @@ fn main() -> ExitCode {
         books: counts.books * times,
         tables: counts.tables * times,
         pairs: counts.pairs * times,
+        histories: counts.histories * times,
+        takings_back: counts.takings_back * times,
         ..counts
     };
     let start = Instant::now();

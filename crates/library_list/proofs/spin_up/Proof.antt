@@ -12,13 +12,13 @@ returns-2 : tie.Need-returns-2
 returns-2 c = spin-result _ _ _ _ _ (c .before .if1 .left) (c .if2 .taken)
 
 state-of-requires : tie.Need-state-of-requires
-state-of-requires c κs = c .before .before .if1 .left
+state-of-requires c κs = search needs
 
 spin-up-requires : tie.Need-spin-up-requires
 spin-up-requires c κs = tt
 
 put-state-requires : tie.Need-put-state-requires
-put-state-requires c κs = c .before .before .before .before .before .before .if1 .left
+put-state-requires c κs = search needs
 
 put-result-requires : tie.Need-put-result-requires
 put-result-requires c κs = c .before .before .before .before .before .before .before .before .before .if2 .left

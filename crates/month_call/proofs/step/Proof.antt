@@ -17,6 +17,7 @@ use Rattle.step_decay.specs.Decay.{decayed}
 use Rattle.step_additions.specs.Additions.{added}
 use Rattle.month_state.specs.declared.State.{State}
 use Rattle.month_state.specs.declared.Entries.{Entries}
+use Rattle.month_state.specs.State.{oneMoreKept}
 use Rattle.month_refusals.specs.declared.Check.the-variants.{Pass}
 use Rattle.month_call.specs.declared.Answer.the-variants.{Done}
 use Rattle.month_call.specs.declared.Outcome.{Outcome}
@@ -28,7 +29,7 @@ use Rattle.month_call.proofs.step.Statement.{statement}
 use Rattle.month_call.proofs.step.Tie as tie
 
 -- The row and the state, from values that are those of the steps.
-module _ (s : State) (e : Entries) (d : Parts) (gas : Grams) (pools : List Grams) where
+module _ (s : State) (e : Entries) (d : Parts) (gas : Grams) (pools : List Grams) (kept : ℕ) where
   built : Outcome
   built =
       record {
@@ -43,14 +44,20 @@ module _ (s : State) (e : Entries) (d : Parts) (gas : Grams) (pools : List Grams
               deficit = d;
             });
         state =
-            record { soil = withPools (s .soil) pools; deficit = d; months = s .months + 1; co2 = grams (s .co2 .0 + gas .0) };
+            record {
+              soil = withPools (s .soil) pools;
+              deficit = d;
+              months = s .months + 1;
+              co2 = grams (s .co2 .0 + gas .0);
+              kept = kept;
+            };
       }
 
   built-is :
-      d .0 ≡ nextDeficit s e → gas .0 ≡ gasOf (s .soil) (nextRate s e) → pools ≡ poolsAfter (s .soil) (nextRate s e) (e .land)
+      kept ≡ oneMoreKept (s .kept) → d .0 ≡ nextDeficit s e → gas .0 ≡ gasOf (s .soil) (nextRate s e) → pools ≡ poolsAfter (s .soil) (nextRate s e) (e .land)
       → built ≡ outcomeOf Pass s e
   unfolding built outcomeOf rowOf movedTo
-  built-is p q r = λ i. record {
+  built-is k p q r = λ i. record {
     answer =
         Done (record {
           dpm = getD (r i) 0 (grams 0);
@@ -67,6 +74,7 @@ module _ (s : State) (e : Entries) (d : Parts) (gas : Grams) (pools : List Grams
           deficit = record { 0 = p i };
           months = s .months + 1;
           co2 = grams (s .co2 .0 + q i);
+          kept = k i;
         };
   }
 
@@ -77,8 +85,11 @@ entries : (c : tie.Start) → Ready (c .args .s) (c .args .e)
 entries c = ready (c .args .s) (c .args .e) (c .pre .entries)
 
 -- the function's entry
-abbrev start : tie.After-to-date → tie.Start
-start c = c .before .before .before .before
+abbrev start : tie.After-one-more-kept → tie.Start
+start c = c .before .before .before .before .before
+
+one-more-kept-requires : tie.Need-one-more-kept-requires
+one-more-kept-requires c κs = tt
 
 deficit-after-requires : tie.Need-deficit-after-requires
 deficit-after-requires c κs = start c .pre
@@ -144,25 +155,25 @@ pools-are c =
     ∙ ap (λ (pools : List Grams). added pools (a .s .soil .kind) (natAbs (a .e .land .plant)) (natAbs (a .e .land .manure)))
     (left-is (c .before .before .before))
 
-array-copy-out-t19 : tie.Need-array-copy-out-t19
-array-copy-out-t19 c = search needs
+array-copy-out-t20 : tie.Need-array-copy-out-t20
+array-copy-out-t20 c = search needs
 
-array-copy-out-t22 : tie.Need-array-copy-out-t22
-array-copy-out-t22 c = search needs
+array-copy-out-t23 : tie.Need-array-copy-out-t23
+array-copy-out-t23 c = search needs
 
-array-copy-out-t25 : tie.Need-array-copy-out-t25
-array-copy-out-t25 c = search needs
+array-copy-out-t26 : tie.Need-array-copy-out-t26
+array-copy-out-t26 c = search needs
 
-array-copy-out-t28 : tie.Need-array-copy-out-t28
-array-copy-out-t28 c = search needs
-
-add-t29 : tie.Need-add-t29
-add-t29 c =
-    let p = c .before .before .before .before .before in
-    omega (arith, sound (start (p .before .before .before .before .before .before)) .months)
+array-copy-out-t29 : tie.Need-array-copy-out-t29
+array-copy-out-t29 c = search needs
 
 add-t30 : tie.Need-add-t30
 add-t30 c =
+    let p = c .before .before .before .before .before in
+    omega (arith, sound (start (p .before .before .before .before .before .before)) .months)
+
+add-t31 : tie.Need-add-t31
+add-t31 c =
     let p = c .before .before .before .before .before .before .before in
     let b = start (p .before .before .before .before .before .before) in
     omega (arith, sound b .months, sound b .carbon, balance (p .before .before .before))
@@ -171,23 +182,25 @@ returns : tie.Need-returns
 unfolding built
 returns c =
     let p = c .before .before .before .before .before .before .before in
-    let a = start (p .before .before .before .before .before .before) .args in
+    let entry = p .before .before .before .before .before .before in
+    let a = start entry .args in
     let decayed = p .before .before .before in
     built-is (a .s) (a .e) (decayed .before .before .deficit-after .result) (decayed .after-decay .result .co2)
-    (p .after-additions .result) (decayed .before .before .deficit-after .ensures) (gas-is decayed) (pools-are p)
+    (p .after-additions .result) _ (entry .one-more-kept .ensures) (decayed .before .before .deficit-after .ensures) (gas-is decayed) (pools-are p)
 
 pub step-spec : {M : Type 1} → statement M
 step-spec =
     tie.close
     (tie.spec
+    one-more-kept-requires
     deficit-after-requires
     rate-after-requires
     after-decay-requires
     after-additions-requires
-    array-copy-out-t19
-    array-copy-out-t22
-    array-copy-out-t25
-    array-copy-out-t28
-    add-t29
+    array-copy-out-t20
+    array-copy-out-t23
+    array-copy-out-t26
+    array-copy-out-t29
     add-t30
+    add-t31
     returns)

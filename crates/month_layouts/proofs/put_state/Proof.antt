@@ -1,85 +1,22 @@
--- `month_layouts::put_state` meets its contract: eleven stores, one for each number of the memory.
+-- `month_layouts::put_state` meets its contract: the eleven numbers, and one store after them.
 -- Assumes nothing.
-use native.Mathlib.Omega.{arith}
-use lib.ListN.{length-set}
-use Rattle.month_layouts.specs.Layouts.{stateNumbers}
-use Rattle.month_layouts.proofs.Layouts.{stored}
+use Rattle.month_layouts.specs.Layouts.{keptNumbers, stateNumbers}
 use borrow.Author.Needs.{needs}
 use Rattle.month_layouts.proofs.put_state.Statement.{statement}
 use Rattle.month_layouts.proofs.put_state.Tie as tie
 
+put-kept-requires : tie.Need-put-kept-requires
+put-kept-requires c κs = search needs
+
 slice-write-numbers : tie.Need-slice-write-numbers
 slice-write-numbers c = search needs
 
-slice-write-numbers-2 : tie.Need-slice-write-numbers-2
-slice-write-numbers-2 c = search needs
-
-slice-write-numbers-3 : tie.Need-slice-write-numbers-3
-slice-write-numbers-3 c = search needs
-
-element-copy-out-numbers : tie.Need-element-copy-out-numbers
-element-copy-out-numbers c = search needs
-
-slice-write-numbers-4 : tie.Need-slice-write-numbers-4
-slice-write-numbers-4 c = search needs
-
-element-copy-out-numbers-2 : tie.Need-element-copy-out-numbers-2
-element-copy-out-numbers-2 c = search needs
-
-slice-write-numbers-5 : tie.Need-slice-write-numbers-5
-slice-write-numbers-5 c = simp length-set (omega arith)
-
-element-copy-out-numbers-3 : tie.Need-element-copy-out-numbers-3
-element-copy-out-numbers-3 c = search needs
-
-slice-write-numbers-6 : tie.Need-slice-write-numbers-6
-slice-write-numbers-6 c = simp length-set (omega arith)
-
-element-copy-out-numbers-4 : tie.Need-element-copy-out-numbers-4
-element-copy-out-numbers-4 c = search needs
-
-slice-write-numbers-7 : tie.Need-slice-write-numbers-7
-slice-write-numbers-7 c = simp length-set (omega arith)
-
-slice-write-numbers-8 : tie.Need-slice-write-numbers-8
-slice-write-numbers-8 c = simp length-set (omega arith)
-
-slice-write-numbers-9 : tie.Need-slice-write-numbers-9
-slice-write-numbers-9 c = simp length-set (omega arith)
-
-slice-write-numbers-10 : tie.Need-slice-write-numbers-10
-slice-write-numbers-10 c = simp length-set (omega arith)
-
-slice-write-numbers-11 : tie.Need-slice-write-numbers-11
-slice-write-numbers-11 c = simp length-set (omega arith)
-
 same-length : tie.Need-same-length
-same-length c = simp length-set
+same-length c = search needs
 
 returns : tie.Need-returns
-unfolding stateNumbers
-returns c =
-    let start = c .before .before in
-    stored (start .args .numbers .now) (stateNumbers (start .args .s)) (start .pre)
+unfolding stateNumbers keptNumbers
+returns c = rw (c .before .before .put-kept .ensures)
 
 pub put-state-spec : {M : Type 1} → statement M
-put-state-spec =
-    tie.close
-    (tie.spec
-    slice-write-numbers
-    slice-write-numbers-2
-    slice-write-numbers-3
-    element-copy-out-numbers
-    slice-write-numbers-4
-    element-copy-out-numbers-2
-    slice-write-numbers-5
-    element-copy-out-numbers-3
-    slice-write-numbers-6
-    element-copy-out-numbers-4
-    slice-write-numbers-7
-    slice-write-numbers-8
-    slice-write-numbers-9
-    slice-write-numbers-10
-    slice-write-numbers-11
-    same-length
-    returns)
+put-state-spec = tie.close (tie.spec put-kept-requires slice-write-numbers same-length returns)

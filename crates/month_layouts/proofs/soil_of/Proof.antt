@@ -1,7 +1,7 @@
 -- `month_layouts::soil_of` meets its contract: eight reads within the memory.
 -- Assumes nothing.
 use mathlib.Core.Path.{refl}
-use Rattle.month_layouts.specs.Layouts.{soilOf}
+use Rattle.month_layouts.specs.Layouts.{soilFrom}
 use borrow.Author.Needs.{needs}
 use Rattle.month_layouts.proofs.soil_of.Statement.{statement}
 use Rattle.month_layouts.proofs.soil_of.Tie as tie
@@ -31,7 +31,7 @@ shared-slice-read-t22 : tie.Need-shared-slice-read-t22
 shared-slice-read-t22 c = search needs
 
 returns : tie.Need-returns
-unfolding soilOf
+unfolding soilFrom
 returns c = refl
 
 pub soil-of-spec : {M : Type 1} → statement M

@@ -10,13 +10,11 @@ use borrow.Author.Tests.{lt-ltb, le-ltb}
 use Rattle.month_refusals.specs.Refusals.{boundsPassed}
 use Rattle.month_state.proofs.Tests.{left-true, right-true}
 use Rattle.month_refusals.proofs.Accepted.{sound-soil}
-use mathlib.Core.Path.{_≡_, sym}
-use mathlib.Core.Bool.{Bool, true}
 use lib.Dec.{ltb}
 use Rattle.step_water.specs.Water.{maxDeficit}
 use Rattle.step_pools.specs.Pools.{total}
 use Rattle.month_state.specs.declared.State.{State}
-use Rattle.month_state.specs.State.{monthLimit}
+use Rattle.month_state.specs.State.{monthLimit, keptLimit}
 use Rattle.month_refusals.proofs.bounds_passed.Statement.{statement}
 use Rattle.month_refusals.proofs.bounds_passed.Tie as tie
 
@@ -27,6 +25,9 @@ module _ (s : State) where
   abbrev months : Bool
   months = ltb monthLimit (s .months)
 
+  abbrev kept : Bool
+  kept = ltb keptLimit (s .kept)
+
   above-deficit : maxDeficit (s .soil .clay) (s .soil .depth) < s .deficit .0 → boundsPassed s ≡ true
   unfolding boundsPassed
   above-deficit h = left-true _ (lt-ltb _ _ h)
@@ -35,14 +36,18 @@ module _ (s : State) where
   unfolding boundsPassed
   above-months h = right-true deficit (left-true _ (lt-ltb _ _ h))
 
+  above-kept : keptLimit < s .kept → boundsPassed s ≡ true
+  unfolding boundsPassed
+  above-kept h = right-true deficit (right-true months (left-true _ (lt-ltb _ _ h)))
+
   above-carbon : 1000000000 + 200000000 * s .months < s .co2 .0 + total (s .soil .pools) → boundsPassed s ≡ true
   unfolding boundsPassed
-  above-carbon h = right-true deficit (right-true months (lt-ltb _ _ h))
+  above-carbon h = right-true deficit (right-true months (right-true kept (lt-ltb _ _ h)))
 
-  last-test : s .deficit .0 ≤ maxDeficit (s .soil .clay) (s .soil .depth) → s .months ≤ monthLimit
+  last-test : s .deficit .0 ≤ maxDeficit (s .soil .clay) (s .soil .depth) → s .months ≤ monthLimit → s .kept ≤ keptLimit
       → ltb (1000000000 + 200000000 * s .months) (s .co2 .0 + total (s .soil .pools)) ≡ boundsPassed s
   unfolding boundsPassed
-  last-test d m = simp (le-ltb _ _ d, le-ltb _ _ m)
+  last-test d m k = simp (le-ltb _ _ d, le-ltb _ _ m, le-ltb _ _ k)
 
 -- the state, as the first test sees it
 abbrev state : tie.After-struct-known2 → State
@@ -60,29 +65,32 @@ returns c = sym (above-deficit (state (c .before)) (omega arith))
 returns-2 : tie.Need-returns-2
 returns-2 c = sym (above-months (state (c .before .before)) (omega arith))
 
+returns-3 : tie.Need-returns-3
+returns-3 c = sym (above-kept (state (c .before .before .before)) (omega arith))
+
 mul-bound : tie.Need-mul-bound
 mul-bound c = search needs
 
 add-bound : tie.Need-add-bound
 add-bound c = search needs
 
-returns-3 : tie.Need-returns-3
-returns-3 c = sym (above-carbon (state (c .before .before .before .before)) (omega arith))
+returns-4 : tie.Need-returns-4
+returns-4 c = sym (above-carbon (state (c .before .before .before .before .before)) (omega arith))
 
 total-requires : tie.Need-total-requires
 total-requires c κs =
-    let s = c .before .before .before .before .before .before .before .before .before .before .before in
+    let s = c .before .before .before .before .before .before .before .before .before .before .before .before in
     omega (arith, sound-soil (s .args .s .soil) (s .pre) .pools)
 
 add-result : tie.Need-add-result
 add-result c =
-    let s = c .before .before .before .before .before .before .before .before .before .before .before .before .before .before in
+    let s = c .before .before .before .before .before .before .before .before .before .before .before .before .before .before .before in
     omega (arith, c .before .before .total .ensures, sound-soil (s .args .s .soil) (s .pre) .pools)
 
-returns-4 : tie.Need-returns-4
-returns-4 c =
+returns-5 : tie.Need-returns-5
+returns-5 c =
     rw (c .before .before .total .ensures)
-    (last-test (state (c .before .before .before .before .before .before .before .before)) (omega arith) (omega arith))
+    (last-test (state (c .before .before .before .before .before .before .before .before .before)) (omega arith) (omega arith) (omega arith))
 
 pub bounds-passed-spec : {M : Type 1} → statement M
 bounds-passed-spec =
@@ -91,9 +99,10 @@ bounds-passed-spec =
     max-deficit-requires
     returns
     returns-2
+    returns-3
     mul-bound
     add-bound
-    returns-3
+    returns-4
     total-requires
     add-result
-    returns-4)
+    returns-5)

@@ -11,6 +11,7 @@ use native.Mathlib.Omega.{arith}
 use borrow.Author.Needs.{needs}
 use lib.IntN.{ℤ}
 use Rattle.month_state.specs.declared.State.{State}
+use Rattle.month_state.specs.State.{keptAside}
 use Rattle.month_state.proofs.Counting.{sub-suc, none-left}
 use Rattle.month_refusals.specs.declared.Check.the-variants.{Pass}
 use Rattle.month_refusals.specs.declared.Refusal.{Refusal}
@@ -41,10 +42,10 @@ module _
       ∙ rw (sub-suc more) at (rest .whole)
 
   settled-year :
-      {test : Bool} → year .answer ≡ answers.Finished → test ≡ settles state (year .state) → test ≡ true
-      → record { answer = Settled (before + 1); state = year .state } ≡ years allowed weather land 0 s s
-  settled-year h e close =
-      rw is
+      {test : Bool} {end : State} → year .answer ≡ answers.Finished → test ≡ settles state (year .state) → test ≡ true
+      → end ≡ keptAside (year .state) → record { answer = Settled (before + 1); state = end } ≡ years allowed weather land 0 s s
+  settled-year h e close ends =
+      rw (ends, is)
       (sym (settled (allowed - suc before) weather land before s state (rw is at h) (rw is at (sym e ∙ close)))
       ∙ rw (sub-suc more) at (rest .whole))
 
@@ -64,10 +65,11 @@ module _
 
 -- No year is left.
 unsettled :
-    {s : State} {weather land : List ℤ} {allowed : ℕ} {state : State} {before : ℕ} → Rest s weather land allowed state before
-    → allowed ≤ before → record { answer = Unsettled before; state = state } ≡ years allowed weather land 0 s s
+    {s : State} {weather land : List ℤ} {allowed : ℕ} {state end : State} {before : ℕ} → Rest s weather land allowed state before
+    → allowed ≤ before → end ≡ keptAside state
+    → record { answer = Unsettled before; state = end } ≡ years allowed weather land 0 s s
 unfolding years
-unsettled rest none = rw (none-left none) at (rest .whole)
+unsettled rest none ends = rw ends (rw (none-left none) at (rest .whole))
 
 abbrev Inv-loop : tie.InvT-loop
 Inv-loop s weather land allowed state₀ before₀ state before = Rest s weather land allowed state before
@@ -120,13 +122,17 @@ settles-requires c κs =
 add-t17 : tie.Need-add-t17 Inv-loop μ-loop
 add-t17 c = omega arith
 
+none-kept-requires : tie.Need-none-kept-requires Inv-loop μ-loop
+none-kept-requires c κs = tt
+
 returns-2 : tie.Need-returns-2 Inv-loop μ-loop
 returns-2 c =
-    let told = c .before .before in
+    let test = c .before in
+    let told = test .before .before in
     let year = told .before .before .before in
     let turn = year .before in
     settled-year (turn .before .loop .inv) (turn .loop-test .taken) (year .year .ensures) (told .enum-told .given .1)
-    (c .before .settles .ensures) (c .if1 .taken)
+    (test .before .settles .ensures) (test .if1 .taken) (c .none-kept .ensures)
 
 add-before : tie.Need-add-before Inv-loop μ-loop
 add-before c = omega arith
@@ -142,8 +148,11 @@ loop-again c =
     next-year (turn .before .loop .inv) (turn .loop-test .taken) (year .year .ensures) (told .enum-told .given .1)
     (c .before .settles .ensures) (c .if1 .left)
 
+none-kept-requires-2 : tie.Need-none-kept-requires-2 Inv-loop μ-loop
+none-kept-requires-2 c κs = tt
+
 returns-3 : tie.Need-returns-3 Inv-loop μ-loop
-returns-3 c = unsettled (c .before .loop .inv) (c .loop-test .left)
+returns-3 c = unsettled (c .before .before .loop .inv) (c .before .loop-test .left) (c .none-kept2 .ensures)
 
 pub run-years-spec : {M : Type 1} → statement M
 run-years-spec =
@@ -160,8 +169,10 @@ run-years-spec =
     enum-told
     settles-requires
     add-t17
+    none-kept-requires
     returns-2
     add-before
     loop-less
     loop-again
+    none-kept-requires-2
     returns-3)

@@ -12,7 +12,7 @@ use Rattle.month_refusals.specs.declared.Refusal.{Refusal}
 use Rattle.month_refusals.specs.Asked.{Finds, told, Exactly}
 use Rattle.spin_up.specs.declared.SpinAnswer.the-variants.{Refused}
 use Rattle.spin_up.specs.declared.SpinOutcome.{SpinOutcome}
-use Rattle.spin_up.specs.SpinUp.{years, beforeYears, spinAsked, spinUp, spinFound, spinTold, spinYears}
+use Rattle.spin_up.specs.SpinUp.{years, beforeYears, spinAsked, spinUp, spinFound, spinTold, spinYears, spinEnd}
 use Rattle.spin_up.specs.Reached.{afterYears}
 use Rattle.spin_up.proofs.Laws.{Before, before, passes-spin, refuses-spin}
 use Rattle.spin_up.proofs.Refusals.{spin-told, spin-exactly}
@@ -27,7 +27,7 @@ module _ (s : State) (weather land : List ℤ) (allowed : ℕ) where
       (r ≡ spinUp s weather land allowed)
       × ((spinTold (r .answer) ≡ told (spinAsked s weather land allowed))
       × (Exactly (spinAsked s weather land allowed) (spinFound (r .answer))
-      × (r .state ≡ afterYears (spinYears (r .answer)) weather land s)))
+      × (r .state ≡ spinEnd (r .answer) (afterYears (spinYears (r .answer)) weather land s))))
 
   promised : {r : SpinOutcome} → r ≡ spinUp s weather land allowed → Promised r
   promised is =

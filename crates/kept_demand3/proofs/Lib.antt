@@ -1,0 +1,5 @@
+pub mod Aside
+pub mod Remains
+pub mod CallsAlone
+pub mod Demand
+pub mod TakingBack
