@@ -1,6 +1,11 @@
 // Times the proved functions beside ordinary C (a floating-point RothC, and a reader of tables with
 // strtod), in one run and in alternation, and writes medians and ratios. bench/run builds and runs
-// it.
+// it. Further libraries, as of earlier commits, are timed in the same alternation.
+//
+//     bench-rothc LIBRARY ..                      times
+//     bench-rothc --count SIDE JOB TIMES LIBRARY  one side (proved or plain) of one job, so many
+//                                                 times and untimed, for counts of instructions
+#include <dlfcn.h>
 #include <math.h>
 #include <stdint.h>
 #include <stdio.h>
@@ -9,6 +14,8 @@
 #include <time.h>
 
 #include "rothc.h"
+
+// ---- ordinary C
 
 // Rothamsted's weather, and a year of the unmanured plot on Hoosfield (examples/README.md).
 static const int64_t rothamsted[12 * ROTHC_WEATHER] = {
@@ -42,36 +49,8 @@ static field month(field f, const int64_t *w, const int64_t *l) {
 }
 
 static const field hoosfield = {0.1533, 4.4852, 0.6671, 25.8576, 2.7, 0, 0};
-static const uint64_t hoosfield_soil[ROTHC_SOIL] = {234, 23, 1, 153300, 4485200, 667100, 25857600, 2700000};
 
-// The months done after a list, and after a spin-up, from the new state of Hoosfield.
-static uint64_t proved_list(uint64_t *rows) {
-  uint64_t state[ROTHC_STATE], place;
-  rothc_start(hoosfield_soil, ROTHC_SOIL, state, ROTHC_STATE);
-  rothc_list(state, ROTHC_STATE, rothamsted, 12 * ROTHC_WEATHER, land, ROTHC_MOST_ROWS * ROTHC_LAND, rows, 8400, &place);
-  return state[ROTHC_STATE_MONTHS];
-}
-
-static uint64_t proved_spin_up(uint64_t years) {
-  uint64_t state[ROTHC_STATE], result[ROTHC_RESULT];
-  rothc_start(hoosfield_soil, ROTHC_SOIL, state, ROTHC_STATE);
-  rothc_spin_up(state, ROTHC_STATE, cold, 12 * ROTHC_WEATHER, residue, 12 * ROTHC_LAND, years, result, ROTHC_RESULT);
-  return state[ROTHC_STATE_MONTHS];
-}
-
-// A year of single month calls, which keep the state before each month. (Floating point's side of it
-// keeps nothing.)
-static uint64_t proved_months(uint64_t *row) {
-  uint64_t state[ROTHC_STATE];
-  rothc_start(hoosfield_soil, ROTHC_SOIL, state, ROTHC_STATE);
-  for (int m = 0; m < 12; m++) {
-    int64_t entries[ROTHC_ENTRIES];
-    memcpy(entries, rothamsted + ROTHC_WEATHER * m, ROTHC_WEATHER * sizeof *entries);
-    memcpy(entries + ROTHC_WEATHER, crops + ROTHC_LAND * m, ROTHC_LAND * sizeof *entries);
-    rothc_month(state, ROTHC_STATE, m + 1, entries, ROTHC_ENTRIES, row, ROTHC_ROW);
-  }
-  return state[ROTHC_STATE_MONTHS];
-}
+static double total(field f) { return f.dpm + f.rpm + f.bio + f.hum + f.iom; }
 
 // A field with the states before its latest 24 months, in ordinary C: a month that keeps the state
 // before it, and the latest one taken back.
@@ -88,47 +67,6 @@ static int take_back(kept_field *f) {
   f->count--;
   f->now = f->kept[--f->months % ROTHC_KEPT_LIMIT];
   return 0;
-}
-
-// So many fields, each with 24 months booked.
-enum { FIELDS = 100 };
-static uint64_t proved_fields[FIELDS][ROTHC_STATE];
-static kept_field plain_fields[FIELDS];
-
-static void book_fields(uint64_t *row) {
-  for (int i = 0; i < FIELDS; i++) {
-    rothc_start(hoosfield_soil, ROTHC_SOIL, proved_fields[i], ROTHC_STATE);
-    plain_fields[i] = (kept_field){.now = hoosfield};
-    for (int m = 0; m < ROTHC_KEPT_LIMIT; m++) {
-      int64_t entries[ROTHC_ENTRIES];
-      memcpy(entries, rothamsted + ROTHC_WEATHER * (m % 12), ROTHC_WEATHER * sizeof *entries);
-      memcpy(entries + ROTHC_WEATHER, crops + ROTHC_LAND * (m % 12), ROTHC_LAND * sizeof *entries);
-      rothc_month(proved_fields[i], ROTHC_STATE, m + 1, entries, ROTHC_ENTRIES, row, ROTHC_ROW);
-      keep_month(&plain_fields[i], rothamsted + ROTHC_WEATHER * (m % 12), crops + ROTHC_LAND * (m % 12));
-    }
-  }
-}
-
-static double total(field f) { return f.dpm + f.rpm + f.bio + f.hum + f.iom; }
-
-static double float_list(double *out) {
-  field f = hoosfield;
-  for (int j = 0; j < 1200; j++) {
-    f = month(f, rothamsted + ROTHC_WEATHER * (j % 12), land + ROTHC_LAND * j);
-    double row[7] = {f.dpm, f.rpm, f.bio, f.hum, f.iom, f.gas, f.deficit};
-    for (int k = 0; k < 7; k++) out[7 * j + k] = row[k];
-  }
-  return total(f);
-}
-
-static double float_spin_up(int years) {
-  field f = hoosfield;
-  for (int year = 0; year < years; year++) {
-    double start = total(f);
-    for (int m = 0; m < 12; m++) f = month(f, cold + ROTHC_WEATHER * m, residue + ROTHC_LAND * m);
-    if (fabs(total(f) - start) <= 0.001) return total(f);
-  }
-  return total(f);
 }
 
 // An ordinary reader of a table in memory, which ends with a byte 0: strtol for the month and strtod
@@ -154,10 +92,236 @@ static int read_table(const char *text, double *weather) {
   return rows;
 }
 
+// ---- the libraries
+
+typedef struct {
+  __typeof__(&rothc_survival) survival;
+  __typeof__(&rothc_start) start;
+  __typeof__(&rothc_month) month;
+  __typeof__(&rothc_take_back) take_back;
+  __typeof__(&rothc_list) list;
+  __typeof__(&rothc_spin_up) spin_up;
+  __typeof__(&rothc_table) table;
+} library;
+
+static void *function(void *object, const char *name) {
+  void *found = dlsym(object, name);
+  if (!found) fprintf(stderr, "%s\n", dlerror()), exit(2);
+  return found;
+}
+
+static library load(const char *path) {
+  void *object = dlopen(path, RTLD_NOW | RTLD_LOCAL);
+  if (!object) fprintf(stderr, "%s\n", dlerror()), exit(2);
+  return (library){function(object, "rothc_survival"), function(object, "rothc_start"), function(object, "rothc_month"),
+                   function(object, "rothc_take_back"), function(object, "rothc_list"), function(object, "rothc_spin_up"),
+                   function(object, "rothc_table")};
+}
+
+// The library whose turn it is, and what the jobs make, so that no work can be left out.
+static library lib;
+static uint64_t sink;
+static double floats;
+
+static void expect(int holds, const char *what) {
+  if (!holds) fprintf(stderr, "%s\n", what), exit(2);
+}
+
+static const uint64_t hoosfield_soil[ROTHC_SOIL] = {234, 23, 1, 153300, 4485200, 667100, 25857600, 2700000};
+
+static void new_field(uint64_t *state) {
+  expect(lib.start(hoosfield_soil, ROTHC_SOIL, state, ROTHC_STATE) == 0, "a field was refused");
+}
+
+// ---- the jobs: the proved side and the plain one do the same work
+
+// The four survival numbers of a month over random N, beside four calls of exp. (rothc_survival
+// makes the four and returns one.)
+enum { NUMBERS = 65536 };
+static uint64_t numbers[NUMBERS];
+
+static void proved_survival(int n) {
+  for (int i = 0; i < n; i++) sink += lib.survival(numbers[i % NUMBERS], 1);
+}
+
+static void plain_survival(int n) {
+  for (int i = 0; i < n; i++) {
+    double w = (double)numbers[i % NUMBERS] / 1.2e12;
+    floats += exp(-w * 1000) + exp(-w * 30) + exp(-w * 66) + exp(-w * 2);
+  }
+}
+
+static void entries_of(int64_t *entries, int m) {
+  memcpy(entries, rothamsted + ROTHC_WEATHER * (m % 12), ROTHC_WEATHER * sizeof *entries);
+  memcpy(entries + ROTHC_WEATHER, crops + ROTHC_LAND * (m % 12), ROTHC_LAND * sizeof *entries);
+}
+
+// Single month calls, year after year from the same start, which keep the state before each month.
+// (Floating point's side keeps nothing.)
+static void proved_months(int n) {
+  uint64_t state[ROTHC_STATE], row[ROTHC_ROW];
+  for (int i = 0; i < n; i++) {
+    int64_t entries[ROTHC_ENTRIES];
+    if (i % 12 == 0) new_field(state);
+    entries_of(entries, i);
+    sink += lib.month(state, ROTHC_STATE, i % 12 + 1, entries, ROTHC_ENTRIES, row, ROTHC_ROW);
+  }
+  expect(state[ROTHC_STATE_MONTHS] == 12, "a month was refused");
+}
+
+static void plain_months(int n) {
+  field f = hoosfield;
+  for (int i = 0; i < n; i++) {
+    if (i % 12 == 0) f = hoosfield;
+    f = month(f, rothamsted + ROTHC_WEATHER * (i % 12), crops + ROTHC_LAND * (i % 12));
+    if (i % 12 == 11) floats += total(f);
+  }
+}
+
+// 24 months taken back, on a hundred fields, after they are booked.
+enum { FIELDS = 100 };
+static uint64_t proved_fields[FIELDS][ROTHC_STATE];
+static kept_field plain_fields[FIELDS];
+
+static void book_fields(void) {
+  uint64_t row[ROTHC_ROW];
+  for (int i = 0; i < FIELDS; i++) {
+    new_field(proved_fields[i]);
+    plain_fields[i] = (kept_field){.now = hoosfield};
+    for (int m = 0; m < ROTHC_KEPT_LIMIT; m++) {
+      int64_t entries[ROTHC_ENTRIES];
+      entries_of(entries, m);
+      lib.month(proved_fields[i], ROTHC_STATE, m + 1, entries, ROTHC_ENTRIES, row, ROTHC_ROW);
+      keep_month(&plain_fields[i], rothamsted + ROTHC_WEATHER * (m % 12), crops + ROTHC_LAND * (m % 12));
+    }
+  }
+}
+
+static void proved_back(int n) {
+  for (int i = 0; i < n; i++) sink += lib.take_back(proved_fields[i / ROTHC_KEPT_LIMIT], ROTHC_STATE);
+  expect(proved_fields[FIELDS - 1][ROTHC_STATE_MONTHS] == 0, "a month was not taken back");
+}
+
+static void plain_back(int n) {
+  for (int i = 0; i < n; i++) sink += take_back(&plain_fields[i / ROTHC_KEPT_LIMIT]);
+  floats += total(plain_fields[FIELDS - 1].now);
+}
+
+// A list of so many months from the new state, its rows written.
+static uint64_t rows[ROTHC_MOST_ROWS * ROTHC_ROW];
+static double plain_rows[ROTHC_MOST_ROWS * ROTHC_ROW];
+
+static void proved_list(int n) {
+  uint64_t state[ROTHC_STATE], place;
+  new_field(state);
+  sink += lib.list(state, ROTHC_STATE, rothamsted, 12 * ROTHC_WEATHER, land, n * ROTHC_LAND, rows, n * ROTHC_ROW, &place);
+  expect(state[ROTHC_STATE_MONTHS] == (uint64_t)n, "a list was refused");
+}
+
+static void plain_list(int n) {
+  field f = hoosfield;
+  for (int j = 0; j < n; j++) {
+    f = month(f, rothamsted + ROTHC_WEATHER * (j % 12), land + ROTHC_LAND * j);
+    double row[ROTHC_ROW] = {f.dpm, f.rpm, f.bio, f.hum, f.iom, f.gas, f.deficit};
+    for (int k = 0; k < ROTHC_ROW; k++) plain_rows[ROTHC_ROW * j + k] = row[k];
+  }
+  // a row is read, or the compiler would leave out the writing
+  floats += total(f) + plain_rows[ROTHC_ROW * n - 1];
+}
+
+// A spin-up of so many months that never settles.
+static void proved_spin_up(int n) {
+  uint64_t state[ROTHC_STATE], result[ROTHC_RESULT];
+  new_field(state);
+  sink += lib.spin_up(state, ROTHC_STATE, cold, 12 * ROTHC_WEATHER, residue, 12 * ROTHC_LAND, n / 12, result, ROTHC_RESULT);
+  expect(state[ROTHC_STATE_MONTHS] == (uint64_t)n, "a spin-up settled");
+}
+
+static void plain_spin_up(int n) {
+  field f = hoosfield;
+  for (int year = 0; year < n / 12; year++) {
+    double start = total(f);
+    for (int m = 0; m < 12; m++) f = month(f, cold + ROTHC_WEATHER * m, residue + ROTHC_LAND * m);
+    expect(fabs(total(f) - start) > 0.001, "a floating-point spin-up settled");
+  }
+  floats += total(f);
+}
+
+// A table of so many lines, their temperatures from -5 to 20 degrees.
+static char table[ROTHC_MOST_ROWS * 40 + 1];
+static size_t table_size[ROTHC_MOST_ROWS + 1];
+static int64_t read_rows[ROTHC_MOST_ROWS * ROTHC_WEATHER];
+static double plain_read[ROTHC_MOST_ROWS * 3];
+
+static void proved_table(int n) {
+  uint64_t got = 0, place = 0;
+  sink += lib.table((const uint8_t *)table, table_size[n], read_rows, ROTHC_MOST_ROWS * ROTHC_WEATHER, &got, &place);
+  expect(got == (uint64_t)n, "a table was refused");
+}
+
+static void plain_table(int n) {
+  char next = table[table_size[n]];
+  table[table_size[n]] = 0;
+  expect(read_table(table, plain_read) == n, "the C reader did not read a table");
+  table[table_size[n]] = next;
+}
+
+static const struct job {
+  const char *name, *what;
+  void (*prepare)(void), (*proved)(int), (*plain)(int);
+  int size, times;
+} jobs[] = {
+    {"survival", "the four survival numbers of a month, four exp", 0, proved_survival, plain_survival, NUMBERS, 1},
+    {"months", "a single month call", 0, proved_months, plain_months, 12000, 1},
+    {"back", "a month taken back", book_fields, proved_back, plain_back, FIELDS * ROTHC_KEPT_LIMIT, 1},
+    {"list12", "a month of a list of 12", 0, proved_list, plain_list, 12, 1000},
+    {"list120", "a month of a list of 120", 0, proved_list, plain_list, 120, 100},
+    {"list1200", "a month of a list of 1,200", 0, proved_list, plain_list, 1200, 10},
+    {"spin100", "a month of a spin-up of 100 years", 0, proved_spin_up, plain_spin_up, 1200, 10},
+    {"spin1000", "a month of a spin-up of 1,000 years", 0, proved_spin_up, plain_spin_up, 12000, 1},
+    {"spin10000", "a month of a spin-up of 10,000 years", 0, proved_spin_up, plain_spin_up, 120000, 1},
+    {"table12", "a line of a table of 12", 0, proved_table, plain_table, 12, 1000},
+    {"table120", "a line of a table of 120", 0, proved_table, plain_table, 120, 100},
+    {"table1200", "a line of a table of 1,200", 0, proved_table, plain_table, 1200, 10},
+};
+enum { JOBS = sizeof jobs / sizeof *jobs };
+
+static void set_up(void) {
+  uint64_t x = 88172645463325252ull;
+  size_t size = 0;
+  for (int m = 0; m < 12; m++) {
+    memcpy(cold + ROTHC_WEATHER * m, rothamsted + ROTHC_WEATHER * m, ROTHC_WEATHER * sizeof *cold);
+    cold[ROTHC_WEATHER * m] = -50;
+    residue[3 * m] = crops[3 * m], residue[3 * m + 1] = 100000, residue[3 * m + 2] = 0;
+  }
+  for (int j = 0; j < ROTHC_MOST_ROWS * ROTHC_LAND; j++) land[j] = crops[j % (12 * ROTHC_LAND)];
+  for (int i = 0; i < NUMBERS; i++) {
+    x ^= x << 13, x ^= x >> 7, x ^= x << 17;
+    numbers[i] = x % 8363900001ull;
+  }
+  for (int j = 0; j < ROTHC_MOST_ROWS; j++) {
+    x ^= x << 13, x ^= x >> 7, x ^= x << 17;
+    size += sprintf(table + size, "%d;%.1f;%.1f;%.1f\n", j + 1, (1 + (int)(x % 250)) / 10.0 - (x % 3 ? 0 : 5.1), x / 251 % 1500 / 10.0, x / 377 % 1300 / 10.0);
+    table_size[j + 1] = size;
+  }
+}
+
+// ---- times
+
+enum { RUNS = 31 };
+
 static double now(void) {
   struct timespec t;
   clock_gettime(CLOCK_MONOTONIC, &t);
   return t.tv_sec + 1e-9 * t.tv_nsec;
+}
+
+// Nanoseconds for one of a side's `size` months, numbers or lines.
+static double timed(const struct job *job, void (*side)(int)) {
+  if (job->prepare) job->prepare();
+  double start = now();
+  for (int i = 0; i < job->times; i++) side(job->size);
+  return (now() - start) * 1e9 / ((double)job->size * job->times);
 }
 
 static int by_size(const void *a, const void *b) {
@@ -165,128 +329,66 @@ static int by_size(const void *a, const void *b) {
   return x < y ? -1 : x > y;
 }
 
-enum { RUNS = 15, NUMBERS = 65536 };
-static double proved[RUNS], plain[RUNS], ratio[RUNS];
-
-static void report(const char *what, const char *unit) {
-  for (int i = 0; i < RUNS; i++) ratio[i] = proved[i] / plain[i];
-  qsort(proved, RUNS, sizeof(double), by_size);
-  qsort(plain, RUNS, sizeof(double), by_size);
-  qsort(ratio, RUNS, sizeof(double), by_size);
-  printf("%s: proved %.3f %s, ordinary C %.3f %s, ratio %.2f (%.2f to %.2f)\n", what, proved[RUNS / 2], unit, plain[RUNS / 2], unit,
-         ratio[RUNS / 2], ratio[0], ratio[RUNS - 1]);
+static double median(double *values) {
+  qsort(values, RUNS, sizeof *values, by_size);
+  return values[RUNS / 2];
 }
 
-int main(void) {
-  static uint64_t n[NUMBERS], out[8400];
-  static double rows[8400];
-  uint64_t x = 88172645463325252ull, sink = 0, done = 0;
-  double floats = 0;
-  char what[80];
-  for (int m = 0; m < 12; m++) {
-    memcpy(cold + ROTHC_WEATHER * m, rothamsted + ROTHC_WEATHER * m, ROTHC_WEATHER * sizeof *cold);
-    cold[ROTHC_WEATHER * m] = -50;
-    residue[3 * m] = crops[3 * m], residue[3 * m + 1] = 100000, residue[3 * m + 2] = 0;
-  }
-  for (int j = 0; j < ROTHC_MOST_ROWS * ROTHC_LAND; j++) land[j] = crops[j % (12 * ROTHC_LAND)];
-  // The four survival numbers of a month over random N, beside four calls of exp. (rothc_survival
-  // makes the four and returns one.)
-  for (int i = 0; i < NUMBERS; i++) {
-    x ^= x << 13, x ^= x >> 7, x ^= x << 17;
-    n[i] = x % 8363900001ull;
-  }
+// The median time of a library's side, and the ratio of each run to the plain one beside it.
+static void told(const char *whose, double *times, const double *plain) {
+  double ratio[RUNS];
+  for (int i = 0; i < RUNS; i++) ratio[i] = times[i] / plain[i];
+  double middle = median(ratio);
+  printf("  %s: %.2f ns, ratio %.2f (quarters %.2f to %.2f)\n", whose, median(times), middle, ratio[RUNS / 4], ratio[3 * RUNS / 4]);
+}
+
+// Each run begins with another side, so that none always follows the same one.
+enum { MOST_LIBRARIES = 8 };
+
+static void time_job(const struct job *job, const library *libraries, char **names, int count) {
+  double times[MOST_LIBRARIES + 1][RUNS];
   for (int run = 0; run < RUNS; run++) {
-    double start = now();
-    for (int i = 0; i < NUMBERS; i++) sink += rothc_survival(n[i], 1);
-    double middle = now();
-    for (int i = 0; i < NUMBERS; i++) {
-      double w = (double)n[i] / 1.2e12;
-      floats += exp(-w * 1000) + exp(-w * 30) + exp(-w * 66) + exp(-w * 2);
-    }
-    proved[run] = (middle - start) / NUMBERS * 1e9, plain[run] = (now() - middle) / NUMBERS * 1e9;
-  }
-  report("four survival numbers, four exp", "ns");
-  // single month calls: a year, a thousand times
-  for (int run = 0; run < RUNS; run++) {
-    double start = now();
-    for (int i = 0; i < 1000; i++) sink += proved_months(out);
-    double middle = now();
-    for (int i = 0; i < 1000; i++) {
-      field f = hoosfield;
-      for (int m = 0; m < 12; m++) f = month(f, rothamsted + ROTHC_WEATHER * m, crops + ROTHC_LAND * m);
-      floats += total(f);
-    }
-    proved[run] = (middle - start) / 12000 * 1e9, plain[run] = (now() - middle) / 12000 * 1e9;
-  }
-  report("a single month call", "ns");
-  // 24 months taken back, on a hundred fields
-  for (int run = 0; run < RUNS; run++) {
-    book_fields(out);
-    double start = now();
-    for (int i = 0; i < FIELDS; i++)
-      for (int m = 0; m < ROTHC_KEPT_LIMIT; m++) sink += rothc_take_back(proved_fields[i], ROTHC_STATE);
-    double middle = now();
-    for (int i = 0; i < FIELDS; i++)
-      for (int m = 0; m < ROTHC_KEPT_LIMIT; m++) sink += take_back(&plain_fields[i]);
-    plain[run] = (now() - middle) / (FIELDS * ROTHC_KEPT_LIMIT) * 1e9;
-    proved[run] = (middle - start) / (FIELDS * ROTHC_KEPT_LIMIT) * 1e9;
-    for (int i = 0; i < FIELDS; i++) {
-      if (proved_fields[i][ROTHC_STATE_MONTHS] || rothc_take_back(proved_fields[i], ROTHC_STATE) != ROTHC_NONE_KEPT)
-        return printf("a field was not taken back\n"), 2;
-      floats += total(plain_fields[i].now);
+    for (int turn = 0; turn <= count; turn++) {
+      int k = (run + turn) % (count + 1);
+      lib = libraries[k < count ? k : 0];
+      times[k][run] = timed(job, k < count ? job->proved : job->plain);
     }
   }
-  report("a month taken back", "ns");
-  // lists of 1,200 months, once, ten and a hundred times
-  for (int times = 1; times <= 100; times *= 10) {
-    for (int run = 0; run < RUNS; run++) {
-      double start = now();
-      for (int i = 0; i < times; i++) done = proved_list(out);
-      double middle = now();
-      for (int i = 0; i < times; i++) floats += float_list(rows);
-      proved[run] = (middle - start) * 1e3, plain[run] = (now() - middle) * 1e3;
+  printf("%s\n", job->what);
+  for (int k = 0; k < count; k++) told(names[k], times[k], times[count]);
+  printf("  ordinary C: %.2f ns\n", median(times[count]));
+}
+
+// A library and the C reader give the same numbers for a table.
+static void compare_tables(library one) {
+  lib = one;
+  proved_table(ROTHC_MOST_ROWS), plain_table(ROTHC_MOST_ROWS);
+  for (int j = 0; j < ROTHC_MOST_ROWS; j++)
+    for (int k = 0; k < 3; k++)
+      expect(read_rows[ROTHC_WEATHER * j + k] == lround(10 * plain_read[3 * j + k]), "a line of a table differs");
+}
+
+static const struct job *named(const char *name) {
+  for (int i = 0; i < JOBS; i++)
+    if (strcmp(jobs[i].name, name) == 0) return &jobs[i];
+  fprintf(stderr, "no job %s\n", name), exit(2);
+}
+
+int main(int argc, char **argv) {
+  set_up();
+  if (argc == 6 && strcmp(argv[1], "--count") == 0) {
+    const struct job *job = named(argv[3]);
+    lib = load(argv[5]);
+    for (int i = 0; i < atoi(argv[4]); i++) {
+      if (job->prepare) job->prepare();
+      (strcmp(argv[2], "plain") ? job->proved : job->plain)(job->size);
     }
-    snprintf(what, sizeof what, "lists, %6d months (%llu done in each)", 1200 * times, (unsigned long long)done);
-    report(what, "ms");
+    printf("%d\n", job->size);
+    return sink == 1 && floats == 1;
   }
-  // spin-ups of 100, 1,000 and 10,000 years that never settle
-  for (int years = 100; years <= 10000; years *= 10) {
-    for (int run = 0; run < RUNS; run++) {
-      double start = now();
-      done = proved_spin_up(years);
-      double middle = now();
-      floats += float_spin_up(years);
-      proved[run] = (middle - start) * 1e3, plain[run] = (now() - middle) * 1e3;
-    }
-    snprintf(what, sizeof what, "spin-up, %6llu months", (unsigned long long)done);
-    report(what, "ms");
-  }
-  // tables of 12, 120 and 1,200 lines, their temperatures from -5 to 20 degrees
-  static char table[ROTHC_MOST_ROWS * 40];
-  static int64_t read[ROTHC_MOST_ROWS * ROTHC_WEATHER];
-  static double kept[ROTHC_MOST_ROWS * 3];
-  for (int lines = 12; lines <= ROTHC_MOST_ROWS; lines *= 10) {
-    size_t size = 0;
-    int times = 120000 / lines;
-    uint64_t got = 0, place = 0;
-    for (int j = 0; j < lines; j++) {
-      x ^= x << 13, x ^= x >> 7, x ^= x << 17;
-      size += sprintf(table + size, "%d;%.1f;%.1f;%.1f\n", j + 1, (1 + (int)(x % 250)) / 10.0 - (x % 3 ? 0 : 5.1), x / 251 % 1500 / 10.0, x / 377 % 1300 / 10.0);
-    }
-    for (int run = 0; run < RUNS; run++) {
-      int rows = 0;
-      double start = now();
-      for (int i = 0; i < times; i++) sink += rothc_table((const uint8_t *)table, size, read, ROTHC_MOST_ROWS * ROTHC_WEATHER, &got, &place);
-      double middle = now();
-      for (int i = 0; i < times; i++) rows = read_table(table, kept);
-      proved[run] = (middle - start) / times * 1e6, plain[run] = (now() - middle) / times * 1e6;
-      if (got != (uint64_t)lines || rows != lines) return printf("a table was not read: line %d\n", (int)place), 2;
-    }
-    for (int j = 0; j < lines; j++)
-      for (int k = 0; k < 3; k++)
-        if (read[ROTHC_WEATHER * j + k] != lround(10 * kept[3 * j + k])) return printf("line %d differs\n", j + 1), 2;
-    snprintf(what, sizeof what, "a table of %4d lines, %zu bytes", lines, size);
-    report(what, "us");
-  }
-  return sink == 0 && floats == 0;
+  if (argc < 2 || argc > MOST_LIBRARIES + 1) return fprintf(stderr, "usage: bench-rothc LIBRARY ..\n"), 2;
+  library libraries[MOST_LIBRARIES];
+  for (int i = 1; i < argc; i++) compare_tables(libraries[i - 1] = load(argv[i]));
+  for (int i = 0; i < JOBS; i++) time_job(&jobs[i], libraries, argv + 1, argc - 1);
+  return sink == 1 && floats == 1;
 }

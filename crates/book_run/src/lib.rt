@@ -25,6 +25,7 @@ use list_rows::LAND_WIDTH;
 use list_rows::WEATHER_WIDTH;
 use list_run::ListAnswer;
 use list_run::run_months;
+use month_layouts::MEMORY_WIDTH;
 use month_refusals::Check;
 use month_refusals::Refusal;
 use month_refusals::check_soil;
@@ -74,7 +75,7 @@ fn after_rows(ends: RowsEnd, s: &[u8], line: u64, months: u64, state: State) -> 
     }
 }
 
-// The land's rows, read into the lent slice, and their months.
+// The land's rows, read into an array, and their months. A book hands on no state that they keep.
 fn land_section(
     count: usize,
     s: &[u8],
@@ -95,7 +96,8 @@ fn land_section(
     let read = read_land(s, place, head + 1, count, &mut land);
     let ends = read.ends;
     let size = LAND_WIDTH * read.rows;
-    let outcome = run_months(state, weather, &land[..size], 0, read.rows, rows);
+    let mut memory = [0u64; MEMORY_WIDTH];
+    let outcome = run_months(state, weather, &land[..size], read.rows, rows, &mut memory);
     let answer = outcome.answer;
     let reached = outcome.state;
     match answer {

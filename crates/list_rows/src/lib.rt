@@ -2,12 +2,12 @@
 // lent memory, read and written, how many there are, and the entries of a month. Lists, books and
 // the library use these functions, which alone know how many numbers a row has.
 ghost use mathlib.Core.Path.{_≡_};
-ghost use Prim.Native.Nat.{_+_, _*_, _≤_, _<_};
+ghost use Prim.Native.Nat.{_+_, _*_, _%_, _≤_, _<_};
 ghost use lib.ListN.{length};
 ghost use Rattle.list_rows.specs.Rows.{weatherWidth, landWidth, entriesWidth, rowWidth};
 ghost use Rattle.list_rows.specs.Rows.{weatherFrom, landFrom, entriesOf};
 ghost use Rattle.list_rows.specs.Rows.{weatherWritten, landWritten, rowWritten};
-ghost use Rattle.list_rows.specs.Rows.{rowsOutside, entriesAt};
+ghost use Rattle.list_rows.specs.Rows.{weatherRows, rowsOutside, entriesAt};
 use month_state::Entries;
 use month_state::Land;
 use month_state::Row;
@@ -116,17 +116,26 @@ pub fn rows_outside(width: usize, count: usize) -> bool
     1200 < count / width
 }
 
-// The entries of the month at place j, counted from 0.
-pub fn entries_at(weather: &[i64], land: &[i64], j: usize) -> Entries
-    requires { ⌜ (weatherWidth ≤ length (now weather))
-        × (landWidth * j + landWidth ≤ length (now land)) ⌝ }
+// The entries of the month at place j, counted from 0, i being its weather row.
+pub fn entries_at(weather: &[i64], land: &[i64], i: usize, j: usize) -> Entries
+    requires weather { ⌜ weatherWidth ≤ length (now weather) ⌝ }
+    requires row { ⌜ i ≡ j % weatherRows (now weather) ⌝ }
+    requires land { ⌜ landWidth * j + landWidth ≤ length (now land) ⌝ }
     ensures { λ r. ⌜ r ≡ entriesAt (now (weather .entry)) (now (land .entry)) j ⌝ }
 {
-    let rows = weather.len() / WEATHER_WIDTH;
-    let of_weather = weather_from(weather, WEATHER_WIDTH * (j % rows));
+    let of_weather = weather_from(weather, WEATHER_WIDTH * i);
     let of_land = land_from(land, LAND_WIDTH * j);
     Entries {
         weather: of_weather,
         land: of_land,
     }
+}
+
+// The weather row that follows row i: after the last, the first again. No division finds it.
+pub fn next_weather(weather: &[i64], i: usize) -> usize
+    requires { ⌜ i < weatherRows (now weather) ⌝ }
+    ensures { λ r. ⌜ r ≡ (i + 1) % weatherRows (now (weather .entry)) ⌝ }
+{
+    let rows = weather.len() / WEATHER_WIDTH;
+    if i + 1 < rows { i + 1 } else { 0 }
 }

@@ -3,7 +3,7 @@
 // kept in lent memory.
 ghost use mathlib.Core.Path.{_≡_};
 ghost use mathlib.Core.List.{_++_};
-ghost use Prim.Native.Nat.{_+_, _*_, _≤_};
+ghost use Prim.Native.Nat.{_*_, _≤_};
 ghost use lib.ListN.{length};
 ghost use Rattle.month_layouts.specs.Layouts.{memoryWidth};
 ghost use Rattle.list_rows.specs.Rows.{weatherWidth, landWidth, rowWidth, landRows};
@@ -18,6 +18,7 @@ use list_rows::LAND_WIDTH;
 use list_rows::ROW_WIDTH;
 use list_rows::WEATHER_WIDTH;
 use list_rows::entries_at;
+use list_rows::next_weather;
 use list_rows::put_row;
 use list_rows::rows_outside;
 use month_call::Answer;
@@ -57,47 +58,10 @@ fn ended(answer: Answer, place: u64, state: State) -> ListOutcome
     }
 }
 
-// So many months from the land row at a place on, counted from 0, their rows written as they run.
-// The first refusal ends them. Longer runs are made of these: the places are those of the whole
-// list. They keep no state, though the kept count goes up with each: whoever hands the state on
-// keeps the states (`keep_months`) or puts the count to 0 (a spin-up).
+// So many months from the first, their rows written as they run, and the state before each kept.
+// The first refusal ends them. Whoever hands no memory on (a book, a spin-up) lends some for the
+// run, and puts the kept count to 0 where the state goes out.
 pub fn run_months(
-    s: State,
-    weather: &[i64],
-    land: &[i64],
-    from: usize,
-    count: usize,
-    out: &mut [u64],
-) -> ListOutcome
-    requires state { ⌜ stateCheck s ≡ Pass ⌝ }
-    requires weather { ⌜ weatherWidth ≤ length (now weather) ⌝ }
-    requires land { ⌜ (landWidth * (from + count) ≤ length (now land)) × (from + count ≤ 1200) ⌝ }
-    requires room { ⌜ rowWidth * (from + count) ≤ length (now out) ⌝ }
-    ensures { λ r. ⌜ record { outcome = r; output = now (out .exit) }
-        ≡ months count (now (weather .entry)) (now (land .entry)) from s (now (out .entry)) ⌝ }
-{
-    let end = from + count;
-    let mut state = s;
-    let mut j = from;
-    while j < end {
-        let entries = entries_at(weather, land, j);
-        let outcome = list_month(state, entries);
-        let answer = outcome.answer;
-        state = outcome.state;
-        let Answer::Done(row) = answer else {
-            return ended(answer, j as u64 + 1, state);
-        };
-        put_row(out, j, row);
-        j += 1;
-    }
-    ListOutcome {
-        answer: ListAnswer::Finished,
-        state,
-    }
-}
-
-// So many months from the first, which keep the state before each of them that runs.
-fn keep_months(
     s: State,
     weather: &[i64],
     land: &[i64],
@@ -117,16 +81,20 @@ fn keep_months(
         (now (memory .entry)) ⌝ }
 {
     let mut state = s;
+    let mut i = 0;
     let mut j = 0;
     while j < count {
-        let outcome = run_months(state, weather, land, j, 1, out);
+        let entries = entries_at(weather, land, i, j);
+        let outcome = list_month(state, entries);
         let answer = outcome.answer;
         let next = outcome.state;
-        let ListAnswer::Finished = answer else {
-            return outcome;
+        let Answer::Done(row) = answer else {
+            return ended(answer, j as u64 + 1, next);
         };
+        put_row(out, j, row);
         keep(state, memory);
         state = next;
+        i = next_weather(weather, i);
         j += 1;
     }
     ListOutcome {
@@ -191,7 +159,7 @@ pub fn run(
         (listFound (r .answer)) ⌝ }
 {
     match check_list(s, weather, land, out.len()) {
-        Check::Pass => keep_months(s, weather, land, land.len() / LAND_WIDTH, out, memory),
+        Check::Pass => run_months(s, weather, land, land.len() / LAND_WIDTH, out, memory),
         Check::Refuse(refusal) => ListOutcome {
             answer: ListAnswer::Refused(refusal, 0),
             state: s,

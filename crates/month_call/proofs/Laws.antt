@@ -2,7 +2,7 @@
 -- month does to a state. Steps.antt has what the steps need.
 -- Assumes nothing.
 use mathlib.Core.Path.{_≡_, refl, sym, _∙_, ap}
-use Prim.Native.Nat.{ℕ, _+_, _≤_}
+use Prim.Native.Nat.{ℕ, _+_, _≤_, _<_, _^_}
 use native.Mathlib.Omega.{arith}
 use lib.IntN.{natAbs}
 use Rattle.step_decay.specs.Rates.{survivals}
@@ -21,7 +21,8 @@ use Rattle.month_state.proofs.Kept.{one-more-most}
 use Rattle.month_refusals.proofs.Accepted.{Sound, Ready, sound-state, state-passes, natural-most, ready, month-parts, month-is-entries}
 use Rattle.month_call.specs.declared.Answer.the-variants.{Refused}
 use Rattle.month_call.specs.Month.{largestDeficit, nextDeficit, nextRate, movedTo, Accepted, outcomeOf, monthCall, listMonth}
-use Rattle.month_call.specs.Month.{answerFound, answerTold}
+use Rattle.month_call.specs.declared.AfterSteps.{AfterSteps}
+use Rattle.month_call.specs.Month.{stepsOf, answerFound, answerTold}
 use Rattle.month_call.proofs.Steps.{deficit-most, state-rate-most, survivals-in-range, month-balance}
 
 -- ---- acceptance
@@ -158,6 +159,15 @@ module _ (s : State) (e : Entries) (h : Sound s) (r : Ready s e) where
 -- A month that passes its checks moves the state, ..
 pub accepted-moved : (s : State) (e : Entries) → Accepted s e → Moved s e (nextState s e)
 accepted-moved s e a = moved s e (sound-state s (a .state)) (ready s e (a .entries))
+
+-- .. whose sums fit 64 bits, ..
+pub steps-fit :
+    (s : State) (e : Entries) {after : AfterSteps} → Accepted s e → after ≡ stepsOf s e
+    → (s .months + 1 < 2 ^ 64) × (s .co2 .0 + after .co2 .0 < 2 ^ 64)
+unfolding movedTo stepsOf
+steps-fit s e a given =
+    let sound = accepted-moved s e a .sound in
+    rw given (omega (arith, sound .months), omega (arith, sound .months, sound .carbon))
 
 -- .. and so does an accepted call.
 pub accepted-moves :

@@ -29,6 +29,7 @@ use Rattle.month_refusals.specs.Refusals.{stateCheck, entriesCheck, monthCheck}
 use Rattle.month_call.specs.declared.Answer.{Answer}
 use Rattle.month_call.specs.declared.Answer.the-variants.{Done, Refused}
 use Rattle.month_call.specs.declared.Outcome.{Outcome}
+use Rattle.month_call.specs.declared.AfterSteps.{AfterSteps}
 
 -- ---- the steps
 
@@ -109,6 +110,15 @@ nextRate s e = rateAfter (s .soil) (nextDeficit s e) e
 pub record Accepted (s : State) (e : Entries) : Type 0 where
   pub state : stateCheck s ≡ Pass
   pub entries : entriesCheck s e ≡ Pass
+
+-- Steps 1 to 6 of a state's month: the pools after it, its CO2 and the new deficit.
+unfoldable pub stepsOf : State → Entries → AfterSteps
+stepsOf s e =
+    record {
+      pools = poolsAfter (s .soil) (nextRate s e) (e .land);
+      co2 = grams (gasOf (s .soil) (nextRate s e));
+      deficit = record { 0 = nextDeficit s e };
+    }
 
 -- An accepted month gives its row and the state moved on; a refused one the refusal and the very
 -- state that it was given.

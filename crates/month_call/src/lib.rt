@@ -1,7 +1,7 @@
 // The single month call of document 01: a state and a month's entries by value, the next state or a
 // refusal.
 ghost use mathlib.Core.Path.{_≡_};
-ghost use Prim.Native.Nat.{_≤_};
+ghost use Prim.Native.Nat.{_+_, _≤_, _<_, _^_};
 ghost use lib.IntN.{natAbs};
 ghost use Rattle.step_factors.specs.Factors.{clayNumber};
 ghost use Rattle.step_decay.specs.Rates.{survivals};
@@ -9,11 +9,13 @@ ghost use Rattle.step_pools.specs.Pools.{total};
 ghost use Rattle.step_decay.specs.Decay.{decayed};
 ghost use Rattle.step_additions.specs.Additions.{added};
 ghost use Rattle.month_state.specs.State.{carbonCeiling};
+ghost use Rattle.month_state.specs.declared.Entries.{Entries};
 ghost use Rattle.month_refusals.specs.declared.Check.the-variants.{Pass};
 ghost use Rattle.month_refusals.specs.Asked.{at, told};
 ghost use Rattle.month_refusals.specs.Refusals.{monthAsked, stateCheck, weatherCheck, landCheck};
+ghost use Rattle.month_call.specs.declared.Answer.the-variants.{Refused};
 ghost use Rattle.month_call.specs.Month.{crop, potential, largestDeficit, nextDeficit};
-ghost use Rattle.month_call.specs.Month.{rateAfter, gasOf, Accepted, outcomeOf};
+ghost use Rattle.month_call.specs.Month.{rateAfter, gasOf, Accepted, stepsOf, outcomeOf};
 ghost use Rattle.month_call.specs.Month.{monthCall, listMonth, answerTold};
 use month_checks::check_entries;
 use month_checks::check_month;
@@ -52,6 +54,13 @@ pub struct Outcome {
     pub state: State,
 }
 
+// What steps 1 to 6 give: the pools after the month, its CO2 and the new deficit.
+struct AfterSteps {
+    pools: [Grams; 4],
+    co2: Grams,
+    deficit: Parts,
+}
+
 // Whether a crop covers the soil.
 fn under_crop(l: Land) -> bool
     requires { ⌜ landCheck l ≡ Pass ⌝ }
@@ -70,33 +79,29 @@ fn is_potential(w: Weather) -> bool
     source == 1
 }
 
-// Step 3: the new deficit.
-fn deficit_after(s: State, e: Entries) -> Parts
-    requires { ⌜ Accepted s e ⌝ }
+// Step 3: the new deficit, with the soil's largest one.
+fn deficit_after(s: State, largest: Parts, e: Entries) -> Parts
+    requires { ⌜ Accepted s e × (largest .0 ≡ largestDeficit (s .soil)) ⌝ }
     ensures { λ r. ⌜ r .0 ≡ nextDeficit s e ⌝ }
 {
-    let soil = s.soil;
     let deficit = s.deficit;
     let weather = e.weather;
     let land = e.land;
     let crop = under_crop(land);
-    let largest = max_deficit(soil.clay, soil.depth);
     let potential = is_potential(weather);
     let evaporation = natural(weather.evaporation);
     let rain = natural(weather.rain);
     new_deficit(crop, largest, deficit, potential, evaporation, rain)
 }
 
-// Steps 1, 3 and 4: the rate number, d being the new deficit.
-fn rate_after(s: State, d: Parts, e: Entries) -> u64
-    requires { ⌜ Accepted s e × (d .0 ≤ largestDeficit (s .soil)) ⌝ }
+// Steps 1, 3 and 4: the rate number, with the soil's largest deficit and d, the new one.
+fn rate_after(s: State, largest: Parts, d: Parts, e: Entries) -> u64
+    requires { ⌜ Accepted s e × (largest .0 ≡ largestDeficit (s .soil)) × (d .0 ≤ largest .0) ⌝ }
     ensures { λ r. ⌜ r ≡ rateAfter (s .soil) (d .0) e ⌝ }
 {
-    let soil = s.soil;
     let weather = e.weather;
     let land = e.land;
     let crop = under_crop(land);
-    let largest = max_deficit(soil.clay, soil.depth);
     let a = temperature_factor(weather.temperature);
     let b = moisture_factor(largest, d);
     rate_number(crop, a, b)
@@ -127,22 +132,40 @@ fn after_additions(s: State, pools: [Grams; 4], l: Land) -> [Grams; 4]
     additions(pools, soil.kind, Grams(plant), Grams(manure))
 }
 
-// An accepted month: its row, and the state moved on.
-fn step(s: State, e: Entries) -> Outcome
+// Steps 1 to 6 of an accepted month. Six numbers come back from it: the row and the state are built
+// of them where they are used, which saves copying both.
+fn run_steps(s: State, e: Entries) -> AfterSteps
     requires { ⌜ Accepted s e ⌝ }
-    ensures { λ r. ⌜ r ≡ outcomeOf Pass s e ⌝ }
+    ensures { λ r. ⌜ r ≡ stepsOf s e ⌝ }
 {
     let soil = s.soil;
     let land = e.land;
-    let iom = soil.iom;
-    let to_date = s.co2;
-    let kept = one_more_kept(s.kept);
-    let deficit = deficit_after(s, e);
-    let n = rate_after(s, deficit, e);
+    let largest = max_deficit(soil.clay, soil.depth);
+    let deficit = deficit_after(s, largest, e);
+    let n = rate_after(s, largest, deficit, e);
     let left = after_decay(s, n);
     let co2 = left.co2;
     let left_pools = left.pools;
     let pools = after_additions(s, left_pools, land);
+    AfterSteps {
+        pools,
+        co2,
+        deficit,
+    }
+}
+
+// An accepted month's row, and the state moved on, from what its steps give.
+fn done(s: State, after: AfterSteps) -> Outcome
+    requires { ⌜ (s .months + 1 < 2 ^ 64) × (s .co2 .0 + after .co2 .0 < 2 ^ 64) ⌝ }
+    ensures { λ r. ⌜ ((e : Entries) → after ≡ stepsOf s e → r ≡ outcomeOf Pass s e) ⌝ }
+{
+    let soil = s.soil;
+    let iom = soil.iom;
+    let to_date = s.co2;
+    let kept = one_more_kept(s.kept);
+    let pools = after.pools;
+    let co2 = after.co2;
+    let deficit = after.deficit;
     let row = Row {
         dpm: pools[0],
         rpm: pools[1],
@@ -172,18 +195,13 @@ fn step(s: State, e: Entries) -> Outcome
     }
 }
 
-// A month after its check: an accepted one is run, a refused one gives the refusal and the state
-// that was given.
-fn after_check(check: Check, s: State, e: Entries) -> Outcome
-    requires { ⌜ (check ≡ Pass → Accepted s e) ⌝ }
-    ensures { λ r. ⌜ r ≡ outcomeOf check s e ⌝ }
+// A refused month: the refusal, and the state that was given.
+fn refused(refusal: Refusal, s: State) -> Outcome
+    ensures { λ r. ⌜ r ≡ record { answer = Refused refusal; state = s } ⌝ }
 {
-    match check {
-        Check::Pass => step(s, e),
-        Check::Refuse(refusal) => Outcome {
-            answer: Answer::Refused(refusal),
-            state: s,
-        },
+    Outcome {
+        answer: Answer::Refused(refusal),
+        state: s,
     }
 }
 
@@ -192,8 +210,10 @@ pub fn month(s: State, number: u64, e: Entries) -> Outcome
     ensures outcome { λ r. ⌜ r ≡ monthCall s number e ⌝ }
     ensures told { λ r. ⌜ answerTold (r .answer) ≡ told (at 0 (monthAsked s number e)) ⌝ }
 {
-    let check = check_month(s, number, e);
-    after_check(check, s, e)
+    match check_month(s, number, e) {
+        Check::Pass => done(s, run_steps(s, e)),
+        Check::Refuse(refusal) => refused(refusal, s),
+    }
 }
 
 // A list's month, of a state that passes 4 to 7 and 10.
@@ -201,6 +221,8 @@ pub fn list_month(s: State, e: Entries) -> Outcome
     requires { ⌜ stateCheck s ≡ Pass ⌝ }
     ensures { λ r. ⌜ r ≡ listMonth s e ⌝ }
 {
-    let check = check_entries(s, e);
-    after_check(check, s, e)
+    match check_entries(s, e) {
+        Check::Pass => done(s, run_steps(s, e)),
+        Check::Refuse(refusal) => refused(refusal, s),
+    }
 }

@@ -18,6 +18,7 @@ use list_rows::WEATHER_WIDTH;
 use list_run::ListAnswer;
 use list_run::ListOutcome;
 use list_run::run_months;
+use month_layouts::MEMORY_WIDTH;
 use month_refusals::Check;
 use month_refusals::Refusal;
 use month_refusals::check_bounds;
@@ -53,7 +54,7 @@ fn settles(start: State, end: State) -> bool
     before.0 <= after.0 + 1000
 }
 
-// A year's twelve months, whose rows are not kept.
+// A year's twelve months. Their rows and the states that they keep are handed to no one.
 fn year(s: State, weather: &[i64], land: &[i64]) -> ListOutcome
     requires state { ⌜ stateCheck s ≡ Pass ⌝ }
     requires rows { ⌜ (length (now weather) ≡ weatherWidth * 12)
@@ -61,7 +62,8 @@ fn year(s: State, weather: &[i64], land: &[i64]) -> ListOutcome
     ensures { λ r. ⌜ r ≡ yearOutcome (now (weather .entry)) (now (land .entry)) s ⌝ }
 {
     let mut rows = [0u64; 84];
-    run_months(s, weather, land, 0, 12, &mut rows)
+    let mut memory = [0u64; MEMORY_WIDTH];
+    run_months(s, weather, land, 12, &mut rows, &mut memory)
 }
 
 // A state with none kept, as a spin-up ends with it.

@@ -9,9 +9,9 @@ ghost use lib.IntN.{pos};
 ghost use lib.Signed.{_≤ℤ_};
 ghost use Rattle.step_factors.specs.Factors.{temperatureFactor, IsTemperatureFactor};
 ghost use Rattle.step_factors.specs.Factors.{clayNumber, IsClayNumber};
-use clay_table::CLAY_TABLE;
+use clay_table::clay_at;
 use number_units::TenThousandths;
-use temperature_table::TEMPERATURE_TABLE;
+use temperature_table::temperature_at;
 
 // A, for a temperature in tenths of a degree, up to 500.
 pub fn temperature_factor(t: i64) -> TenThousandths
@@ -23,7 +23,7 @@ pub fn temperature_factor(t: i64) -> TenThousandths
         return TenThousandths(0);
     }
     let place = (t + 50) as usize;
-    TenThousandths(TEMPERATURE_TABLE[place] as u64)
+    TenThousandths(temperature_at(place) as u64)
 }
 
 // R, for a clay content in tenths of a percent, up to 1000.
@@ -31,5 +31,5 @@ pub fn clay_number(clay: u64) -> u64
     requires { ⌜ clay ≤ 1000 ⌝ }
     ensures { λ r. ⌜ (r ≡ clayNumber clay) × IsClayNumber clay r × (r ≤ 244467) ⌝ }
 {
-    CLAY_TABLE[clay as usize] as u64
+    clay_at(clay as usize) as u64
 }

@@ -5,12 +5,16 @@ ghost use Prim.Native.Nat.{_≤_, _<_, _^_};
 ghost use Rattle.step_pools.specs.Pools.{share, total};
 use number_units::Grams;
 
-// part of the whole equal parts of x, rounded down. x is divided first, so that no product passes
-// 64 bits for any x.
+// part of the whole equal parts of x, rounded down. Up to ten billion, which is above the carbon of
+// any accepted field, one product and one division do it. A larger x is divided first, so that no
+// product passes 64 bits for any x.
 pub fn share(x: u64, part: u64, whole: u64) -> u64
     requires { ⌜ (0 < whole) × (whole ≤ 1000000000) × (part ≤ whole) ⌝ }
     ensures { λ r. ⌜ (r ≡ share x part whole) × (r ≤ x) ⌝ }
 {
+    if x <= 10_000_000_000 {
+        return x * part / whole;
+    }
     x / whole * part + x % whole * part / whole
 }
 

@@ -13,7 +13,8 @@ use libc::STDOUT_FILENO;
 fn run_one(book: &[u8]) -> bool {
     let mut out = [0u8; 204_800];
     let written = book_report::report(book, &mut out);
-    io::write_all(STDOUT_FILENO, &out[..written])
+    let length = written.length;
+    io::write_all(STDOUT_FILENO, &out[..length])
 }
 
 // Runs the framed book at a place. Gives the place of the next one, or the end of the books where

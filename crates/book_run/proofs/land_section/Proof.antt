@@ -1,6 +1,6 @@
 -- `book_run::land_section` meets its contract: the front of the array that is lent to the months is the numbers that were read.
 -- Assumes nothing.
-use mathlib.Core.Path.{_≡_, sym, _∙_, ap}
+use mathlib.Core.Path.{_≡_, refl, sym, _∙_, ap}
 use mathlib.Core.List.{List}
 use Prim.Native.Nat.{ℕ, _+_, _*_, _≤_}
 use native.Mathlib.Omega.{arith}
@@ -64,14 +64,14 @@ rows-are c = omega (arith, c .read-land .ensures .0)
 -- what the months leave
 left-is :
     (c : tie.After-run-months)
-    → let a = c .before .before .before .before .before .before .before .before .args in
-    record { outcome = c .run-months .result; output = c .run-months .last .1 .1 .1 .1 .1 .0 }
+    → let a = c .before .before .before .before .before .before .before .before .before .args in
+    record { outcome = c .run-months .result; output = c .run-months .last .1 .1 .1 .1 .0 }
     ≡ landMonths (readLand (a .count) (a .s .now) (a .place) (a .head + 1)) (a .weather .now) (a .state) (a .rows .now)
 left-is c =
-    let read = c .before .before .before .before .before in
+    let read = c .before .before .before .before .before .before in
     let a = read .before .before .before .args in
     let rows = read .read-land .result .rows in
-    c .run-months .ensures
+    c .run-months .ensures .0
     ∙ ap (λ (land : List ℤ). months rows (a .weather .now) land 0 (a .state) (a .rows .now)) (front-is read)
     ∙ ap (λ (n : ℕ). months n (a .weather .now) (readLand (a .count) (a .s .now) (a .place) (a .head + 1) .numbers) 0 (a .state) (a .rows .now)) (rows-are read)
 
@@ -93,13 +93,16 @@ array-share-prefix-land c = front-within _ _ (front-size (c .before .before))
 slice-aggregate-run-months : tie.Need-slice-aggregate-run-months
 slice-aggregate-run-months c = front-size (c .before .before .before)
 
+slice-aggregate-run-months-2 : tie.Need-slice-aggregate-run-months-2
+slice-aggregate-run-months-2 c = search needs
+
 run-months-requires : tie.Need-run-months-requires
 run-months-requires c κs =
-    let read = c .before .before .before .before in
+    let read = c .before .before .before .before .before in
     let start = read .before .before .before in
     let most : read .read-land .result .rows ≤ 1200 = omega (arith, few read, start .pre .1 .1 .0) in (
       start .pre .0,
-      (start .pre .1 .0, ((omega (arith, front-size read), omega arith), omega (arith, c .run-months-arg .given .0 .1))),
+      (start .pre .1 .0, ((omega (arith, front-size read), most), (omega (arith, most, c .before .run-months-arg .given .0 .1), refl))),
     )
 
 enum-told : tie.Need-enum-told
@@ -107,42 +110,42 @@ enum-told c = search needs
 
 add-after-rows : tie.Need-add-after-rows
 add-after-rows c =
-    let start = c .before .before .before .before .before .before .before .before .before .before .before in
+    let start = c .before .before .before .before .before .before .before .before .before .before .before .before .before in
     omega (arith, start .pre .1 .1 .1)
 
 add-after-rows-2 : tie.Need-add-after-rows-2
 add-after-rows-2 c =
-    let start = c .before .before .before .before .before .before .before .before .before .before .before in
+    let start = c .before .before .before .before .before .before .before .before .before .before .before .before .before in
     omega (arith, start .pre .1 .1 .0, start .pre .1 .1 .1)
 
 after-rows-requires : tie.Need-after-rows-requires
 after-rows-requires c κs =
-    let ran = c .before .before .before in
-    let start = ran .before .before .before .before .before .before .before .before in
-    ap (λ (l : Left). stateCheck (l .outcome .state)) (ran .run-months .ensures) ∙ months-sound _ _ _ _ _ _ (start .pre .0)
+    let ran = c .before .before .before .before in
+    let start = ran .before .before .before .before .before .before .before .before .before in
+    ap (λ (l : Left). stateCheck (l .outcome .state)) (ran .run-months .ensures .0) ∙ months-sound _ _ _ _ _ _ (start .pre .0)
 
 enum-known-answer : tie.Need-enum-known-answer
 enum-known-answer c = search needs
 
-add-t29 : tie.Need-add-t29
-add-t29 c =
-    let ran = c .before .before .before .before in
-    let read = ran .before .before .before .before .before in
+add-t32 : tie.Need-add-t32
+add-t32 c =
+    let ran = c .before .before .before .before .before in
+    let read = ran .before .before .before .before .before .before in
     let start = read .before .before .before in
     let place =
-    place-in (course _ _ _ _ _ _) (sym (ap (λ (l : Left). l .outcome .answer) (ran .run-months .ensures)) ∙ c .before .answer .given .1) in
+    place-in (course _ _ _ _ _ _) (sym (ap (λ (l : Left). l .outcome .answer) (ran .run-months .ensures .0)) ∙ c .before .answer .given .1) in
     omega (arith, place .1, few read, start .pre .1 .1 .0, start .pre .1 .1 .1)
 
 returns : tie.Need-returns
 returns c =
-    let ran = c .before .before .before .before in
-    let read = ran .before .before .before .before .before in
+    let ran = c .before .before .before .before .before in
+    let read = ran .before .before .before .before .before .before in
     section-is _ _ _ _ _ _ _ (left-is ran)
     (rw (c .before .enum-told .given .1, ← read .read-land .ensures .1 .0) (c .after-rows .ensures))
 
 returns-2 : tie.Need-returns-2
 returns-2 c =
-    let ran = c .before .before .before .before in
+    let ran = c .before .before .before .before .before in
     section-is _ _ _ _ _ _ _ (left-is ran) (rw (c .before .answer .given .1))
 
 pub land-section-spec : {M : Type 1} → statement M
@@ -155,12 +158,13 @@ land-section-spec =
     mul-size
     array-share-prefix-land
     slice-aggregate-run-months
+    slice-aggregate-run-months-2
     run-months-requires
     enum-told
     add-after-rows
     add-after-rows-2
     after-rows-requires
     enum-known-answer
-    add-t29
+    add-t32
     returns
     returns-2)

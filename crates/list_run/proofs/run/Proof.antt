@@ -53,8 +53,8 @@ passes c = sym (c .before .before .check-list .ensures .first) ∙ c .enum-told 
 enum-told : tie.Need-enum-told
 enum-told c = search needs
 
-keep-months-requires : tie.Need-keep-months-requires
-keep-months-requires c κs =
+run-months-requires : tie.Need-run-months-requires
+run-months-requires c κs =
     let told = c .before .before in
     let start = told .before .before .before .before .before in
     let a = start .args in
@@ -76,8 +76,8 @@ returns c =
     let told = ran .before .before .before in
     let a = told .before .before .before .before .before .args in
     with-told (a .s) (a .weather .now) (a .land .now) (a .out .now) (a .memory .now)
-    (ran .keep-months .ensures .0 ∙ passes-run (a .s) (a .weather .now) (a .land .now) (a .out .now) (passes told))
-    (ran .keep-months .ensures .1)
+    (ran .run-months .ensures .0 ∙ passes-run (a .s) (a .weather .now) (a .land .now) (a .out .now) (passes told))
+    (ran .run-months .ensures .1)
 
 returns-2 : tie.Need-returns-2
 unfolding keptMonths
@@ -94,7 +94,7 @@ run-spec =
     (tie.spec
     check-list-requires
     enum-told
-    keep-months-requires
+    run-months-requires
     enum-known-refusal
     same-length
     same-length-2

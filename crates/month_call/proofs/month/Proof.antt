@@ -5,12 +5,12 @@ use mathlib.Core.Path.{_≡_, _∙_, sym, ap}
 use Prim.Native.Nat.{ℕ}
 use Rattle.month_state.specs.declared.State.{State}
 use Rattle.month_state.specs.declared.Entries.{Entries}
-use Rattle.month_refusals.specs.declared.Check.{Check}
+use Rattle.month_refusals.specs.declared.Check.the-variants.{Pass}
 use Rattle.month_refusals.specs.Asked.{at, told}
-use Rattle.month_refusals.specs.Refusals.{monthAsked}
+use Rattle.month_refusals.specs.Refusals.{monthAsked, monthCheck}
 use Rattle.month_call.specs.declared.Outcome.{Outcome}
-use Rattle.month_call.specs.Month.{outcomeOf, monthCall, answerTold}
-use Rattle.month_call.proofs.Laws.{accepted, call-told}
+use Rattle.month_call.specs.Month.{Accepted, outcomeOf, monthCall, answerTold}
+use Rattle.month_call.proofs.Laws.{accepted, steps-fit, call-told}
 use Rattle.month_call.proofs.month.Statement.{statement}
 use Rattle.month_call.proofs.month.Tie as tie
 
@@ -23,17 +23,52 @@ with-told s number e is = (is, ap (λ (o : Outcome). answerTold (o .answer)) is 
 check-month-requires : tie.Need-check-month-requires
 check-month-requires c κs = search needs
 
-after-check-requires : tie.Need-after-check-requires
-after-check-requires c κs =
-    let a = c .before .args in
-    λ h. accepted (a .s) (a .number) (a .e) (sym (c .check-month .ensures .first) ∙ h)
+enum-told : tie.Need-enum-told
+enum-told c = search needs
+
+passes : (c : tie.After-enum-told) → let a = c .before .before .before .args in monthCheck (a .s) (a .number) (a .e) ≡ Pass
+passes c = sym (c .before .before .check-month .ensures .first) ∙ c .enum-told .given .1
+
+accepts : (c : tie.After-enum-told) → let a = c .before .before .before .args in Accepted (a .s) (a .e)
+accepts c = let a = c .before .before .before .args in accepted (a .s) (a .number) (a .e) (passes c)
+
+run-steps-requires : tie.Need-run-steps-requires
+run-steps-requires c κs = accepts c
+
+done-requires : tie.Need-done-requires
+done-requires c κs = steps-fit _ _ (accepts (c .before)) (c .run-steps .ensures)
+
+enum-known-refusal : tie.Need-enum-known-refusal
+enum-known-refusal c = search needs
+
+refused-requires : tie.Need-refused-requires
+refused-requires c κs = search needs
 
 returns : tie.Need-returns
 unfolding monthCall
 returns c =
-    let a = c .before .before .args in
+    let ran = c .before in
+    let a = ran .before .before .before .before .args in
+    with-told (a .s) (a .number) (a .e) (rw (passes (ran .before)) (c .done .ensures _ (ran .run-steps .ensures)))
+
+returns-2 : tie.Need-returns-2
+unfolding monthCall outcomeOf
+returns-2 c =
+    let known = c .before .before in
+    let checked = known .before .before in
+    let a = checked .before .args in
     with-told (a .s) (a .number) (a .e)
-    (c .after-check .ensures ∙ ap (λ (check : Check). outcomeOf check (a .s) (a .e)) (c .before .check-month .ensures .first))
+    (rw (sym (checked .check-month .ensures .first) ∙ known .refusal .given .1) (c .refused .ensures))
 
 pub month-spec : {M : Type 1} → statement M
-month-spec = tie.close (tie.spec check-month-requires after-check-requires returns)
+month-spec =
+    tie.close
+    (tie.spec
+    check-month-requires
+    enum-told
+    run-steps-requires
+    done-requires
+    enum-known-refusal
+    refused-requires
+    returns
+    returns-2)

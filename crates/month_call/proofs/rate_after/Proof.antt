@@ -23,19 +23,14 @@ land-passes c = entries-parts (c .args .s) (c .args .e) (c .pre .0 .entries) .la
 
 -- the function's entry
 abbrev start : tie.After-temperature-factor → tie.Start
-start c = c .before .before .before .before .before .before .before
+start c = c .before .before .before .before .before
 
 under-crop-requires : tie.Need-under-crop-requires
-under-crop-requires c κs = land-passes (c .before .before .before)
-
-max-deficit-requires : tie.Need-max-deficit-requires
-max-deficit-requires c κs =
-    let soil = sound (c .before .before .before .before) .soil in
-    (soil .clay, soil .deepest)
+under-crop-requires c κs = land-passes (c .before .before)
 
 temperature-factor-requires : tie.Need-temperature-factor-requires
 temperature-factor-requires c κs =
-    let s = c .before .before .before .before .before .before in
+    let s = c .before .before .before .before in
     rw (read (s .args .e .weather .temperature) (c .struct-told .given .0 .1))
     (ready (s .args .s) (s .args .e) (s .pre .0 .entries) .weather .temperature .to)
 
@@ -48,14 +43,14 @@ moisture-factor-requires : tie.Need-moisture-factor-requires
 moisture-factor-requires c κs =
     let s = start c in
     let m = deficit-range (s .args .s .soil) (sound s .soil) in
-    (omega (arith, m), omega (arith, m), omega (arith, s .pre .1))
+    (omega (arith, m, s .pre .1), omega (arith, m, s .pre .1), s .pre .2)
 
 rate-number-requires : tie.Need-rate-number-requires
 rate-number-requires c κs =
     let m = moisture-factor-requires (c .before) κs in
     let s = start (c .before) in (
       c .before .temperature-factor .ensures .2,
-      omega (arith, c .moisture-factor .ensures, moistureFactor-top (c .before .before .before .max-deficit .result .0) (s .args .d .0) (m .0)),
+      omega (arith, c .moisture-factor .ensures, moistureFactor-top (s .args .largest .0) (s .args .d .0) (m .0)),
     )
 
 returns : tie.Need-returns
@@ -63,15 +58,14 @@ unfolding rateAfter
 returns c =
     let b = c .before .before in
     let d = start b .args .d .0 in
-    let moisture = c .before .moisture-factor .ensures ∙ ap (λ (m : ℕ). moistureFactor m d) (b .before .before .max-deficit .ensures) in
-    c .rate-number .ensures ∙ rw (b .before .before .before .under-crop .ensures, factor-is b, moisture)
+    let moisture = c .before .moisture-factor .ensures ∙ ap (λ (m : ℕ). moistureFactor m d) (start b .pre .1) in
+    c .rate-number .ensures ∙ rw (b .before .before .under-crop .ensures, factor-is b, moisture)
 
 pub rate-after-spec : {M : Type 1} → statement M
 rate-after-spec =
     tie.close
     (tie.spec
     under-crop-requires
-    max-deficit-requires
     temperature-factor-requires
     moisture-factor-requires
     rate-number-requires

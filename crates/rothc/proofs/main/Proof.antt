@@ -1,8 +1,9 @@
--- `rothc::main` is safe: what was read is part of its array, and what `report` wrote part of the output. Assumes nothing.
-use mathlib.Core.Path.{sym}
+-- `rothc::main` is safe: what was read is part of its array, and a status is a digit. Assumes nothing.
+use mathlib.Core.Path.{refl, sym}
 use Prim.Native.Nat.{ℕ}
 use native.Mathlib.Omega.{arith}
 use lib.ListN.{length-take, length-replicate}
+use Rattle.rothc.proofs.Laws.{one-digit}
 use Rattle.rothc.proofs.main.Statement.{statement}
 use Rattle.rothc.proofs.main.Tie as tie
 
@@ -12,26 +13,32 @@ slice-aggregate-read-book c = sym (length-replicate {A = ℕ} 65537 0)
 read-book-requires : tie.Need-read-book-requires
 read-book-requires c κs = tt
 
+slice-aggregate-fail : tie.Need-slice-aggregate-fail
+slice-aggregate-fail c = refl
+
+fail-requires : tie.Need-fail-requires
+fail-requires c κs = tt
+
+status-requires : tie.Need-status-requires
+status-requires c κs = tt
+
+tell-requires : tie.Need-tell-requires
+tell-requires c κs = rw (c .status .ensures) (one-digit _ _)
+
 returns : tie.Need-returns
 returns c = tt
 
 array-share-prefix-book : tie.Need-array-share-prefix-book
 array-share-prefix-book c = omega arith
 
-slice-aggregate-report : tie.Need-slice-aggregate-report
-slice-aggregate-report c = simp length-take (omega arith)
+slice-aggregate-run : tie.Need-slice-aggregate-run
+slice-aggregate-run c = simp length-take (omega arith)
 
-report-requires : tie.Need-report-requires
-report-requires c κs = tt
+run-requires : tie.Need-run-requires
+run-requires c κs = tt
 
-array-share-prefix-out : tie.Need-array-share-prefix-out
-array-share-prefix-out c = c .report .ensures .1 .1
-
-slice-aggregate-write-all : tie.Need-slice-aggregate-write-all
-slice-aggregate-write-all c = simp length-take (omega (arith, c .before .report .ensures .1 .1))
-
-write-all-requires : tie.Need-write-all-requires
-write-all-requires c κs = tt
+tell-requires-2 : tie.Need-tell-requires-2
+tell-requires-2 c κs = rw (c .run .ensures) (one-digit _ _)
 
 returns-2 : tie.Need-returns-2
 returns-2 c = tt
@@ -42,11 +49,13 @@ main-spec =
     (tie.spec
     slice-aggregate-read-book
     read-book-requires
+    slice-aggregate-fail
+    fail-requires
+    status-requires
+    tell-requires
     returns
     array-share-prefix-book
-    slice-aggregate-report
-    report-requires
-    array-share-prefix-out
-    slice-aggregate-write-all
-    write-all-requires
+    slice-aggregate-run
+    run-requires
+    tell-requires-2
     returns-2)

@@ -1,27 +1,24 @@
--- `step_factors::clay_number` meets its contract: the code's table is that of the definition, whose rule holds at every place.
--- Assumes nothing.
+-- `step_factors::clay_number` meets its contract: `clay_at` gives the definition's entry, whose rule
+-- holds at every place. Assumes nothing.
 use mathlib.Core.Path.{refl}
-use native.Mathlib.Omega.{arith}
 use borrow.Author.Needs.{needs}
-use Rattle.step_factors.specs.ClayTable.{clayTable}
 use Rattle.step_factors.specs.Factors.{clayNumber, IsClayNumber}
 use Rattle.step_factors.proofs.Laws.{clay-nearest, clay-most}
 use Rattle.step_factors.proofs.clay_number.Statement.{statement}
 use Rattle.step_factors.proofs.clay_number.Tie as tie
 
-mul-result : tie.Need-mul-result
-mul-result c = search needs
-
-array-read-result : tie.Need-array-read-result
-array-read-result c = search needs
+clay-at-requires : tie.Need-clay-at-requires
+clay-at-requires c κs = search needs
 
 cast-result : tie.Need-cast-result
-unfolding clayTable
-cast-result c = omega (arith, clay-most (c .args .clay) (c .pre))
+cast-result c = search needs
 
 returns : tie.Need-returns
-unfolding clayNumber IsClayNumber clayTable
-returns c = (refl, clay-nearest (c .args .clay) (c .pre), clay-most (c .args .clay) (c .pre))
+unfolding clayNumber IsClayNumber
+returns c =
+    let s = c .before in
+    rw (c .clay-at .ensures)
+    (refl, clay-nearest (s .args .clay) (s .pre), clay-most (s .args .clay) (s .pre))
 
 pub clay-number-spec : {M : Type 1} → statement M
-clay-number-spec = tie.close (tie.spec mul-result array-read-result cast-result returns)
+clay-number-spec = tie.close (tie.spec clay-at-requires cast-result returns)

@@ -1,17 +1,14 @@
 -- `step_factors::temperature_factor` meets its contract: the code's place is the definition's, whose rule holds at every place.
 -- Assumes nothing.
-use mathlib.Core.Path.{_≡_, refl, sym, _∙_, ap, subst}
-use mathlib.Core.Bool.{true, false}
-use Prim.Native.Nat.{ℕ, _≤_, _<_}
+use mathlib.Core.Path.{_≡_}
+use Prim.Native.Nat.{ℕ, _<_}
 use native.Mathlib.Omega.{arith}
+use borrow.Author.Needs.{needs}
 use lib.Dec.{lit≤}
-use lib.IntN.{ℤ, pos, negsuc, _+ℤ_, natAbs}
-use lib.Signed.{ltZ}
+use lib.IntN.{pos, _+ℤ_}
 use mir.Syntax.{w64}
 use mir.Val.{SFits, toZ, ofZ}
 use mir.Facts.{toZ-ofZ}
-use Rattle.step_factors.specs.TemperatureTable.{temperatureTable}
-use Rattle.step_factors.proofs.Laws.{temperature-most}
 use Rattle.step_factors.proofs.Places.{place, below-table, in-table}
 use Rattle.step_factors.proofs.temperature_factor.Statement.{statement}
 use Rattle.step_factors.proofs.temperature_factor.Tie as tie
@@ -41,20 +38,18 @@ add-place c = rw (summed c .3) (place-fits (summed c .0) (summed c .1))
 cast-place : tie.Need-cast-place
 cast-place c = rw (read-place c) (tt, record { fits = omega (arith, summed c .1) })
 
-mul-t6 : tie.Need-mul-t6
-mul-t6 c = rw (read-place c) (omega (arith, summed c .1))
+temperature-at-requires : tie.Need-temperature-at-requires
+temperature-at-requires c κs = rw (read-place c) (summed c .1)
 
-array-read-t9 : tie.Need-array-read-t9
-array-read-t9 c = rw (read-place c) (summed c .1)
-
-cast-t10 : tie.Need-cast-t10
-unfolding temperatureTable
-cast-t10 c = rw (read-place c) (omega (arith, temperature-most (summed c .0) (summed c .1)))
+cast-t6 : tie.Need-cast-t6
+cast-t6 c = search needs
 
 returns-2 : tie.Need-returns-2
-unfolding temperatureTable
-returns-2 c = rw (read-place c) (in-table (c .before .args .t) (summed c .0) (summed c .1) (summed c .2))
+returns-2 c =
+    let s = c .before in
+    rw (c .temperature-at .ensures, read-place s)
+    (in-table (s .before .args .t) (summed s .0) (summed s .1) (summed s .2))
 
 pub temperature-factor-spec : {M : Type 1} → statement M
 temperature-factor-spec =
-    tie.close (tie.spec returns add-place cast-place mul-t6 array-read-t9 cast-t10 returns-2)
+    tie.close (tie.spec returns add-place cast-place temperature-at-requires cast-t6 returns-2)

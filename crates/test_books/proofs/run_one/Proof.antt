@@ -8,10 +8,10 @@ report-requires : tie.Need-report-requires
 report-requires c κs = tt
 
 array-share-prefix-out : tie.Need-array-share-prefix-out
-array-share-prefix-out c = c .report .ensures .1 .1
+array-share-prefix-out c = c .report .ensures .1 .1 .1
 
 slice-aggregate-write-all : tie.Need-slice-aggregate-write-all
-slice-aggregate-write-all c = simp length-take (omega (arith, c .before .report .ensures .1 .1))
+slice-aggregate-write-all c = simp length-take (omega (arith, c .before .report .ensures .1 .1 .1))
 
 write-all-requires : tie.Need-write-all-requires
 write-all-requires c κs = tt
