@@ -69,6 +69,14 @@ static int take_back(kept_field *f) {
   return 0;
 }
 
+// An ordinary e^(-w) with the number of its terms: the plain series in doubles, each term from the one
+// before it, until one is too small to count in a billionth.
+static double series_counted(double w, unsigned *terms) {
+  double term = 1, sum = 0;
+  for (*terms = 0; fabs(term) > 1e-10; term *= -w / ++*terms) sum += term;
+  return sum;
+}
+
 // An ordinary reader of a table in memory, which ends with a byte 0: strtol for the month and strtod
 // for the others, each row kept in doubles. Gives the rows, or -1 where something else stands there.
 static int read_table(const char *text, double *weather) {
@@ -102,6 +110,7 @@ typedef struct {
   __typeof__(&rothc_list) list;
   __typeof__(&rothc_spin_up) spin_up;
   __typeof__(&rothc_table) table;
+  __typeof__(&rothc_survival_terms) survival_terms; // null in libraries before change 2026-03
 } library;
 
 static void *function(void *object, const char *name) {
@@ -115,7 +124,7 @@ static library load(const char *path) {
   if (!object) fprintf(stderr, "%s\n", dlerror()), exit(2);
   return (library){function(object, "rothc_survival"), function(object, "rothc_start"), function(object, "rothc_month"),
                    function(object, "rothc_take_back"), function(object, "rothc_list"), function(object, "rothc_spin_up"),
-                   function(object, "rothc_table")};
+                   function(object, "rothc_table"), dlsym(object, "rothc_survival_terms")};
 }
 
 // The library whose turn it is, and what the jobs make, so that no work can be left out.
@@ -148,6 +157,21 @@ static void plain_survival(int n) {
   for (int i = 0; i < n; i++) {
     double w = (double)numbers[i % NUMBERS] / 1.2e12;
     floats += exp(-w * 1000) + exp(-w * 30) + exp(-w * 66) + exp(-w * 2);
+  }
+}
+
+// DPM's survival number with the number of its terms, over the same N.
+static void proved_terms(int n) {
+  for (int i = 0; i < n; i++) {
+    uint64_t terms;
+    sink += lib.survival_terms(numbers[i % NUMBERS], 0, &terms) + terms;
+  }
+}
+
+static void plain_terms(int n) {
+  for (int i = 0; i < n; i++) {
+    unsigned terms;
+    floats += series_counted((double)numbers[i % NUMBERS] / 1.2e9, &terms) + terms;
   }
 }
 
@@ -272,6 +296,7 @@ static const struct job {
   int size, times;
 } jobs[] = {
     {"survival", "the four survival numbers of a month, four exp", 0, proved_survival, plain_survival, NUMBERS, 1},
+    {"terms", "DPM's survival number with its terms counted", 0, proved_terms, plain_terms, NUMBERS, 1},
     {"months", "a single month call", 0, proved_months, plain_months, 12000, 1},
     {"back", "a month taken back", book_fields, proved_back, plain_back, FIELDS * ROTHC_KEPT_LIMIT, 1},
     {"list12", "a month of a list of 12", 0, proved_list, plain_list, 12, 1000},
@@ -342,6 +367,11 @@ static void told(const char *whose, double *times, const double *plain) {
   printf("  %s: %.2f ns, ratio %.2f (quarters %.2f to %.2f)\n", whose, median(times), middle, ratio[RUNS / 4], ratio[3 * RUNS / 4]);
 }
 
+// A library of before change 2026-03 has no terms to count.
+static int makes(const library *one, const struct job *job) {
+  return job->proved != proved_terms || one->survival_terms;
+}
+
 // Each run begins with another side, so that none always follows the same one.
 enum { MOST_LIBRARIES = 8 };
 
@@ -350,12 +380,14 @@ static void time_job(const struct job *job, const library *libraries, char **nam
   for (int run = 0; run < RUNS; run++) {
     for (int turn = 0; turn <= count; turn++) {
       int k = (run + turn) % (count + 1);
+      if (k < count && !makes(&libraries[k], job)) continue;
       lib = libraries[k < count ? k : 0];
       times[k][run] = timed(job, k < count ? job->proved : job->plain);
     }
   }
   printf("%s\n", job->what);
-  for (int k = 0; k < count; k++) told(names[k], times[k], times[count]);
+  for (int k = 0; k < count; k++)
+    if (makes(&libraries[k], job)) told(names[k], times[k], times[count]);
   printf("  ordinary C: %.2f ns\n", median(times[count]));
 }
 

@@ -20,10 +20,10 @@
  * same call is lent. This the caller has to see to: everything else is checked, and refused with a
  * number, except the kept states (see "A state").
  *
- * Answers. Each call but rothc_survival returns 0 where it did what it was asked, one of the
- * refusals below where it did not, or ROTHC_SHAPE where memory of a fixed layout (soil, state,
- * entries, row, result) has another length. What a refused call leaves in the memory is said at
- * each function. With ROTHC_SHAPE it leaves everything as it was.
+ * Answers. Each call but rothc_survival and rothc_survival_terms returns 0 where it did what it was
+ * asked, one of the refusals below where it did not, or ROTHC_SHAPE where memory of a fixed layout
+ * (soil, state, entries, row, result) has another length. What a refused call leaves in the memory
+ * is said at each function. With ROTHC_SHAPE it leaves everything as it was.
  */
 #ifndef ROTHC_H
 #define ROTHC_H
@@ -150,13 +150,24 @@ enum { ROTHC_TEXT = 204800 };
 /* A spin-up's result, 2 x uint64_t. */
 enum { ROTHC_RESULT_SETTLED = 0, ROTHC_RESULT_YEARS = 1 };
 
-/* What rothc_survival returns where it has no number to give. */
+/* What rothc_survival and rothc_survival_terms return where they have no number to give. */
 #define ROTHC_NO_SURVIVAL UINT64_MAX
 
 /* The survival number of a pool in a month of rate number n: what the pool keeps of 1,000,000,000.
  * pool is 0 for DPM, 1 for RPM, 2 for BIO, 3 for HUM. Returns ROTHC_NO_SURVIVAL where pool is above
  * 3 or n above 8,363,900,000, the largest rate number of a month. */
 uint64_t rothc_survival(uint64_t n, uint64_t pool);
+
+/* The same survival number, and in terms how many terms of a series were summed for it: a call for
+ * tests (change 2026-03). At most 40 are allowed, and 6 is the most that there are.
+ * How they are counted: n x 2^44 / 1,200,000,000,000 is rounded down, multiplied by the pool's rate
+ * in hundredths a year (1000, 30, 66, 2), divided by 2^7 and rounded down again; r is the remainder
+ * of that by 2^32. r / 2^37 is what the series 1 - x + x^2/2 - .. is summed for: its term 0 is 2^37,
+ * and each term after it is the one before it, times r, over 2^37 and over its number 1, 2, 3, ..,
+ * rounded down. Summed are the terms before the first that is 0.
+ * Returns ROTHC_NO_SURVIVAL where rothc_survival does, and then leaves terms as it was.
+ * terms: one number. */
+uint64_t rothc_survival_terms(uint64_t n, uint64_t pool, uint64_t *terms);
 
 /* Writes the new state of a soil: the soil's numbers, and 0 for the deficit, the months done, the
  * CO2 to date and the kept count. The places stay as they were.

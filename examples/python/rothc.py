@@ -20,6 +20,7 @@ def load():
     number = [ctypes.POINTER(Unsigned)]
     for name, arguments in {
         "rothc_survival": [Unsigned, Unsigned],
+        "rothc_survival_terms": [Unsigned, Unsigned] + number,
         "rothc_start": numbers + numbers,
         "rothc_month": numbers + [Unsigned] + signed + numbers,
         "rothc_take_back": numbers,

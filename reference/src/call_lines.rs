@@ -4,12 +4,15 @@
 //! reference.
 
 use crate::calls::{
-    entries_of, lent_state, soil_of, state_of, Act, Call, EntryNumbers, LandRow, OwnNumbers,
+    entries_of, lent_state, rate, soil_of, state_of, Act, Call, EntryNumbers, LandRow, OwnNumbers,
     SoilNumbers, StateNumbers, WeatherRow, CLAY, CO2, COVER, DEFICIT, DEPTH, EVAPORATION, FILL,
-    INERT, KEPT, KIND, MANURE, MONTHS, MOST_ACTS, OWN_NUMBERS, PLACES, PLANT, POOLS, RAIN,
-    SOIL_NUMBERS, SOURCE, STATE_NUMBERS, TEMPERATURE,
+    INERT, KEPT, KIND, LARGEST_N as MOST, MANURE, MONTHS, MOST_ACTS, NO_SURVIVAL, OWN_NUMBERS,
+    PLACES, PLANT, POOLS, RAIN, SOIL_NUMBERS, SOURCE, STATE_NUMBERS, TEMPERATURE,
 };
-use crate::exponential::{allowed_range, survival_nearest, BILLION};
+use crate::exponential::{
+    allowed_range, exponent_parts, least_n, least_remainder, series_remainder, survival_nearest,
+    survival_range, temperature_factor, terms, BILLION, MOST_TERMS, STEP_PARTS,
+};
 use crate::model::{factors, kept, Nearest, LAND_NUMBERS, OUTPUT_NUMBERS, RATES, WEATHER_NUMBERS};
 use crate::table;
 use crate::vectors::Draw;
@@ -172,6 +175,12 @@ pub fn groups() -> Vec<Group> {
     table_drawn(&mut sheet);
     survival_numbers(&mut sheet);
     survival_ends(&mut sheet);
+    terms_drawn(&mut sheet);
+    terms_ends(&mut sheet);
+    terms_changes(&mut sheet);
+    terms_multiples(&mut sheet);
+    terms_refused(&mut sheet);
+    terms_too_far(&mut sheet);
     sheet.groups
 }
 
@@ -2812,8 +2821,6 @@ fn table_drawn(sheet: &mut Sheet) {
 
 // ---- D: survival numbers ----
 
-const MOST: u64 = 8_363_900_000;
-
 /// 600 numbers with s the nearest whole number: any S at most 1 from the exact number gives 1.
 fn survival_numbers(sheet: &mut Sheet) {
     sheet.group("D: 600 survival numbers of drawn n and the four pools, s the nearest");
@@ -2868,10 +2875,164 @@ fn survival_ends(sheet: &mut Sheet) {
     }
 }
 
+// ---- K: survival numbers with their terms ----
+
+/// The most terms that a pool's survival number has: HUM's w is below 1/32.
+const POOL_TERMS: [u64; 4] = [6, 6, 6, 5];
+
+/// A line whose s is close to the number, or too far from it: the first number is stated.
+fn put_terms(sheet: &mut Sheet, n: u64, pool: usize, s: u64, wanted: u64) {
+    let count = terms(n, RATES[pool]);
+    assert!(count >= 1 && count <= POOL_TERMS[pool] && count <= MOST_TERMS);
+    let pool = pool as u64;
+    let call = Call::Terms { n, pool, s };
+    let (answer, fixed) = call.fixed_answer();
+    assert!(fixed && answer == [wanted, 1, count], "{}", call.line());
+    sheet.put(call, answer);
+}
+
+/// A line with s the nearest whole number.
+fn show_terms(sheet: &mut Sheet, n: u64, pool: usize) {
+    put_terms(sheet, n, pool, survival_nearest(n, RATES[pool]), 1);
+}
+
+/// n of every size, and n of months: A, B and cover.
+fn terms_drawn(sheet: &mut Sheet) {
+    sheet.group("K: drawn n of every size and of months for the four pools, s the nearest");
+    let mut draw = Draw::new(97);
+    for round in 0..60 {
+        let n = match round / 4 {
+            0 => 356_100_000,
+            turn if turn % 3 == 0 => {
+                let size = 1 + draw.below(32);
+                draw.below(1 << size)
+            }
+            turn if turn % 3 == 1 => {
+                let moisture = 2_000 + draw.below(8_001);
+                let cover = [6, 10][draw.below(2) as usize];
+                temperature_factor(draw.between(-50, 500)) * moisture * cover
+            }
+            _ => draw.below(MOST + 1),
+        };
+        show_terms(sheet, n, round % 4);
+    }
+}
+
+/// The ends of n's range, and 500 under a crop on moist soil. One term at n = 0.
+fn terms_ends(sheet: &mut Sheet) {
+    sheet.group("K: n at 0, 1, the largest and one less, and the hottest month under a crop");
+    for pool in 0..4 {
+        for n in [0, 1, MOST - 1, MOST, MOST / 10 * 6] {
+            show_terms(sheet, n, pool);
+        }
+        assert_eq!(terms(0, RATES[pool]), 1);
+    }
+}
+
+/// The neighbours n and n + 1 where each count of a pool begins: below the first multiple of 1/32
+/// and above the last one.
+fn terms_changes(sheet: &mut Sheet) {
+    sheet.group("K: neighbours n whose counts differ, for each pool and each count");
+    for (pool, k) in RATES.into_iter().enumerate() {
+        let last = exponent_parts(MOST, k) / STEP_PARTS;
+        for multiple in if last > 0 { vec![0, last] } else { vec![0] } {
+            for count in 2..=POOL_TERMS[pool] {
+                let parts = multiple * STEP_PARTS + least_remainder(count);
+                let n = least_n(k, parts, MOST);
+                if exponent_parts(n, k) < parts {
+                    // Past the largest n.
+                    assert!(multiple > 0);
+                    continue;
+                }
+                assert!(terms(n, k) == count && terms(n - 1, k) != count);
+                show_terms(sheet, n - 1, pool);
+                show_terms(sheet, n, pool);
+            }
+        }
+    }
+}
+
+/// Multiples of 1/32 of w: the last n below, the first one not below, and the next. HUM's w
+/// reaches none; its r is 0 up to n = 4.
+fn terms_multiples(sheet: &mut Sheet) {
+    sheet.group("K: n where the remainder is 0, and n just around multiples of 1/32 of w");
+    // No other n above 0 has r = 0, but for HUM's.
+    for (n, pool) in [(4_687_500_000, 0), (2_840_909_091, 2)] {
+        assert_eq!(series_remainder(n, RATES[pool]), 0);
+        for n in n - 1..=n + 1 {
+            show_terms(sheet, n, pool);
+        }
+    }
+    for n in 2..=6 {
+        assert_eq!(series_remainder(n, RATES[3]) == 0, n <= 4);
+        show_terms(sheet, n, 3);
+    }
+    for (pool, multiples) in [
+        (0, &[1, 2, 3, 32, 64, 100, 223][..]),
+        (1, &[1, 2, 5, 6]),
+        (2, &[1, 2, 8, 14]),
+    ] {
+        for multiple in multiples {
+            let k = RATES[pool];
+            let n = least_n(k, multiple * STEP_PARTS, MOST);
+            assert_eq!(terms(n - 1, k), 6);
+            for n in n - 1..=n + u64::from(pool > 0) {
+                show_terms(sheet, n, pool);
+            }
+        }
+    }
+}
+
+/// No number is given and the lent terms stay, also where n or pool is small when cut to 32 bits.
+fn terms_refused(sheet: &mut Sheet) {
+    sheet.group("K: pools above 3 and n above the largest, alone and together: the terms stay");
+    let mut refused = |n: u64, pool: u64| {
+        assert_eq!(rate(n, pool), None);
+        let s = NO_SURVIVAL;
+        let call = Call::Terms { n, pool, s };
+        let (answer, fixed) = call.fixed_answer();
+        assert!(fixed && answer == [1, 1, FILL], "{}", call.line());
+        sheet.put(call, answer);
+    };
+    for pool in [4, 5, 1 << 32, u64::MAX] {
+        for n in [0, MOST, MOST + 1, u64::MAX] {
+            refused(n, pool);
+        }
+    }
+    for pool in 0..4 {
+        for n in [MOST + 1, 1 << 34, u64::MAX] {
+            refused(n, pool);
+        }
+    }
+}
+
+/// At n = 0 the number is exact: two beside it is too far. Elsewhere two beyond the numbers at
+/// most 1 from the exact one, and more; also where a difference would wrap.
+fn terms_too_far(sheet: &mut Sheet) {
+    sheet.group("K: an s too far off gives 0, also where a difference would wrap");
+    for (pool, k) in RATES.into_iter().enumerate() {
+        let near = survival_nearest(MOST, k);
+        let (lowest, highest) = survival_range(356_100_000, k, 1);
+        for (n, s) in [
+            (0, BILLION - 2),
+            (0, BILLION + 2),
+            (1, BILLION - 3),
+            (356_100_000, lowest - 2),
+            (356_100_000, highest + 2),
+            (MOST, near - 3),
+            (MOST, near + 3),
+            (MOST, 0),
+            (MOST, u64::MAX),
+        ] {
+            put_terms(sheet, n, pool, s, 0);
+        }
+    }
+}
+
 #[cfg(test)]
 mod tests {
     use super::*;
-    use crate::exponential::allowed_range;
+    use std::collections::BTreeMap;
 
     #[test]
     fn lines_and_their_size() {
@@ -2880,14 +3041,14 @@ mod tests {
         let input: usize = lines.iter().map(|line| line.call.input().len()).sum();
         let answered = |line: &&Line| line.call.answer_line(&line.answer).len() + 1;
         let output: usize = lines.iter().map(answered).sum();
-        assert!(lines.len() >= 3_800, "{} lines", lines.len());
+        assert!(lines.len() >= 4_600, "{} lines", lines.len());
         assert!(input < 850_000, "{input} bytes in");
         assert!(output < 2_000_000, "{output} bytes out");
         // Every refusal that a call can meet is there, and the limits of the format are kept.
         let mut seen = std::collections::BTreeSet::new();
         for line in &lines {
             let letter = line.call.line().chars().next().unwrap();
-            if letter != 'D' {
+            if !['D', 'K'].contains(&letter) {
                 seen.insert((letter, line.answer[0]));
             }
             if let Call::List {
@@ -2920,17 +3081,40 @@ mod tests {
         assert_eq!(seen, wanted);
         // The answers don't move with S.
         for line in &lines {
-            if matches!(line.call, Call::Survival { .. }) {
-                continue;
-            }
+            let distance = match line.call {
+                Call::Survival { .. } | Call::Terms { .. } => 1,
+                _ => 3,
+            };
             for end in 0..2 {
                 let mut survival = |n: u64, k: u64| {
-                    let (lowest, highest) = allowed_range(n, k);
+                    let (lowest, highest) = survival_range(n, k, distance);
                     [lowest, highest][end]
                 };
                 let answer = line.call.answer(7, &mut survival, &mut |_, _| ());
                 assert!(answer == line.answer, "{}", line.call.line());
             }
         }
+    }
+
+    /// Every count that a pool can have is in a line of that pool.
+    #[test]
+    fn lines_of_every_count() {
+        let mut seen: BTreeMap<(u64, u64), u64> = BTreeMap::new();
+        let mut refused = 0;
+        for line in groups().iter().flat_map(|group| &group.lines) {
+            if let Call::Terms { n, pool, .. } = line.call {
+                match rate(n, pool) {
+                    Some(_) => *seen.entry((pool, line.answer[2])).or_default() += 1,
+                    None => refused += 1,
+                }
+            }
+        }
+        let wanted = (0..4).flat_map(|pool| (1..=POOL_TERMS[pool]).map(move |c| (pool as u64, c)));
+        assert!(seen.keys().copied().eq(wanted), "{seen:?}");
+        let lines: u64 = refused + seen.values().sum::<u64>();
+        assert!(lines >= 240, "{lines}");
+        // The largest n has HUM's most, and no remainder has more than 6.
+        assert_eq!(terms(MOST, RATES[3]), 5);
+        assert_eq!(least_remainder(7), STEP_PARTS);
     }
 }

@@ -10,6 +10,7 @@
 //! | `H` soil(8) n acts(n) | a history: a new state, then acts on it | the new state's number, each act's, all 276 of the state |
 //! | `T` room length | a table, with an output of room numbers | number, rows, place, the room of the output |
 //! | `D` n pool s | a survival number | 1 where it is at most 1 from s, else 0 |
+//! | `K` n pool s | a survival number with its terms | 1 or 0 as for `D`, 1 where the call without terms returns the same, else 0, the lent terms |
 //!
 //! soil: clay, depth, kind, DPM, RPM, BIO, HUM, IOM. state: these 8, deficit, months done, CO2 to
 //! date, kept count; a lent state has 24 places of 11 numbers more, for kept states. Before a call
@@ -20,11 +21,14 @@
 //! nothing is refused. A table's bytes follow its line, exactly as many as its length says, and one
 //! byte 10 follows them.
 //!
+//! n and pool of a `K` line are any numbers: where the pool is above 3 or n above 8,363,900,000
+//! both calls return 2^64 - 1, which is then the line's s, and the terms stay 7.
+//!
 //! An act is nine numbers: 0 for a taking-back, with eight zeros; 1 for a month, 2 for a list, 3
 //! for a spin-up, with the month's number, the list's land rows or the years, and the entries. A
 //! list's land rows are all alike and its weather row is one; a spin-up has twelve of each.
 
-use crate::exponential::survival_range;
+use crate::exponential::{survival_range, terms};
 use crate::fixed::month_fixed;
 use crate::memory;
 use crate::model::{
@@ -49,6 +53,11 @@ const TABLE_HEAD: usize = 3;
 
 /// What lent memory holds before a call of the test lines.
 pub const FILL: u64 = 7;
+
+/// What the calls for a survival number return where they have none to give.
+pub const NO_SURVIVAL: u64 = u64::MAX;
+/// The largest N of step 4: A at 500, 10,000 and 10.
+pub const LARGEST_N: u64 = 8_363_900_000;
 
 pub type SoilNumbers = [u64; SOIL_NUMBERS];
 pub type OwnNumbers = [u64; OWN_NUMBERS];
@@ -247,6 +256,22 @@ pub enum Call {
         pool: usize,
         s: u64,
     },
+    Terms {
+        n: u64,
+        pool: u64,
+        s: u64,
+    },
+}
+
+/// The rate of a survival number that is asked for, or nothing where the call has none to give.
+pub fn rate(n: u64, pool: u64) -> Option<u64> {
+    let pool = usize::try_from(pool).ok()?;
+    RATES.get(pool).copied().filter(|_| n <= LARGEST_N)
+}
+
+/// 1 where two numbers are at most 1 apart, else 0.
+pub fn close(one: u64, other: u64) -> u64 {
+    u64::from(one.abs_diff(other) <= 1)
 }
 
 fn words<T: ToString>(numbers: &[T]) -> String {
@@ -288,6 +313,7 @@ impl Call {
             Call::History { .. } => "history",
             Call::Table { .. } => "table",
             Call::Survival { .. } => "survival",
+            Call::Terms { .. } => "survival and terms",
         }
     }
 
@@ -310,7 +336,7 @@ impl Call {
             Call::List { .. } => Some(2),
             Call::SpinUp { .. } => Some(3),
             Call::History { acts, .. } => Some(1 + acts.len()),
-            Call::Table { .. } | Call::Survival { .. } => None,
+            Call::Table { .. } | Call::Survival { .. } | Call::Terms { .. } => None,
         }
     }
 
@@ -372,6 +398,7 @@ impl Call {
             }
             Call::Table { room, table } => format!("T {room} {}", table.len()),
             Call::Survival { n, pool, s } => format!("D {n} {pool} {s}"),
+            Call::Terms { n, pool, s } => format!("K {n} {pool} {s}"),
         }
     }
 
@@ -397,7 +424,7 @@ impl Call {
                 let head = head.iter().map(|number| i128::from(*number));
                 words(&head.chain(output).collect::<Vec<i128>>())
             }
-            Call::History { .. } | Call::Survival { .. } => words(answer),
+            Call::History { .. } | Call::Survival { .. } | Call::Terms { .. } => words(answer),
             _ => {
                 let at = self.state_at().expect("all others have a state");
                 let (head, rest) = answer.split_at(at + PLACES);
@@ -476,7 +503,15 @@ impl Call {
             }
             Call::Survival { n, pool, s } => {
                 let own = survival.survival(*n, RATES[*pool]);
-                vec![u64::from(own.abs_diff(*s) <= 1)]
+                vec![close(own, *s)]
+            }
+            Call::Terms { n, pool, s } => {
+                let (own, terms) = match rate(*n, *pool) {
+                    Some(k) => (survival.survival(*n, k), terms(*n, k)),
+                    None => (NO_SURVIVAL, fill),
+                };
+                // Both calls return the one number.
+                vec![close(own, *s), 1, terms]
             }
         }
     }
@@ -484,11 +519,15 @@ impl Call {
     /// The answer, and whether it is the same for every allowed S. For a survival number:
     /// whether it is the same for every S at most 1 from the exact number.
     pub fn fixed_answer(&self) -> (Vec<u64>, bool) {
-        let mut fixed = true;
-        if let Call::Survival { n, pool, s } = self {
-            let (lowest, highest) = survival_range(*n, RATES[*pool], 1);
-            fixed = (lowest.abs_diff(*s) <= 1) == (highest.abs_diff(*s) <= 1);
-        }
+        let asked = match self {
+            Call::Survival { n, pool, s } => Some((*n, RATES[*pool], *s)),
+            Call::Terms { n, pool, s } => rate(*n, *pool).map(|k| (*n, k, *s)),
+            _ => None,
+        };
+        let mut fixed = asked.is_none_or(|(n, k, s)| {
+            let (lowest, highest) = survival_range(n, k, 1);
+            close(lowest, s) == close(highest, s)
+        });
         let answer = self.answer(FILL, &mut Nearest, &mut |state, entries| {
             fixed &= month_fixed(state, entries)
         });
@@ -630,6 +669,41 @@ mod tests {
         );
         assert_eq!(s(1_000_000_002).1, "0");
         assert_eq!(s(u64::MAX).1, "0");
+        let terms = |n, pool, s| text(&Call::Terms { n, pool, s });
+        assert_eq!(
+            terms(0, 3, 1_000_000_001),
+            ("K 0 3 1000000001".into(), "1 1 1".into(), true)
+        );
+        assert_eq!(terms(0, 0, 999_999_998).1, "0 1 1");
+        // January 1852: two beyond the numbers at most 1 away is too far from both.
+        let (lowest, highest) = survival_range(356_100_000, 1000, 1);
+        let january = |s| {
+            text(&Call::Terms {
+                n: 356_100_000,
+                pool: 0,
+                s,
+            })
+        };
+        for s in [lowest, highest] {
+            assert_eq!(january(s).1, "1 1 6");
+            assert!(january(s).2);
+        }
+        for s in [lowest - 2, highest + 2, 0, u64::MAX] {
+            assert_eq!(january(s).1, "0 1 6");
+            assert!(january(s).2);
+        }
+        assert!(!january(lowest - 1).2 && !january(highest + 1).2);
+        for (n, pool) in [
+            (0, 4),
+            (0, u64::MAX),
+            (LARGEST_N + 1, 0),
+            (u64::MAX, 3),
+            (u64::MAX, u64::MAX),
+        ] {
+            let (line, answer, fixed) = terms(n, pool, u64::MAX);
+            assert_eq!(line, format!("K {n} {pool} 18446744073709551615"));
+            assert!(answer == "1 1 7" && fixed);
+        }
     }
 
     /// The places hold what the paper's list of kept states does, on drawn histories from a new

@@ -7,12 +7,15 @@
 
 use crate::book::{self, Answer};
 use crate::calls::{
-    entries_of, soil_of, state_of, Act, Call, EntryNumbers, LandRow, SoilNumbers, StateNumbers,
-    WeatherRow, CLAY, CO2, COVER, DEFICIT, DEPTH, ENTRY_NUMBERS, EVAPORATION, INERT, KEPT, KIND,
-    MANURE, MONTHS, OWN_NUMBERS, PLACES, PLANT, POOLS, RAIN, SOIL_NUMBERS, SOURCE, STATE_NUMBERS,
-    TEMPERATURE,
+    close, entries_of, rate, soil_of, state_of, Act, Call, EntryNumbers, LandRow, SoilNumbers,
+    StateNumbers, WeatherRow, CLAY, CO2, COVER, DEFICIT, DEPTH, ENTRY_NUMBERS, EVAPORATION, INERT,
+    KEPT, KIND, LARGEST_N, MANURE, MONTHS, NO_SURVIVAL, OWN_NUMBERS, PLACES, PLANT, POOLS, RAIN,
+    SOIL_NUMBERS, SOURCE, STATE_NUMBERS, TEMPERATURE,
 };
-use crate::exponential::{within, BILLION};
+use crate::exponential::{
+    exponent_parts, least_n, least_remainder, temperature_factor, terms, within, BILLION,
+    MOST_TERMS, STEP_PARTS,
+};
 use crate::fraction::Fraction;
 use crate::memory;
 use crate::model::{
@@ -29,15 +32,11 @@ use std::collections::HashMap;
 
 /// What a function returns where lent memory of a fixed layout has another length.
 pub const WRONG_LENGTH: u64 = 100;
-/// What `survival` returns where it has no number to give.
-pub const NO_SURVIVAL: u64 = u64::MAX;
-/// The largest N of step 4: A at 500, 10,000 and 10.
-pub const LARGEST_N: u64 = 8_363_900_000;
 /// The most bytes that are written for a book.
 pub const LONGEST_TEXT: usize = 204_800;
 
 /// The program under test, as include/rothc.h has it. Slices are lent memory of any length; each
-/// function but `survival` returns the refusal's number, 0 or `WRONG_LENGTH`.
+/// function but `survival` and `survival_terms` returns the refusal's number, 0 or `WRONG_LENGTH`.
 pub trait Program {
     fn start(&mut self, soil: &[u64], state: &mut [u64]) -> u64;
     fn month(&mut self, state: &mut [u64], number: u64, entries: &[i64], row: &mut [u64]) -> u64;
@@ -65,6 +64,8 @@ pub trait Program {
     fn table(&mut self, table: &[u8], weather: &mut [i64], rows: &mut u64, place: &mut u64) -> u64;
     /// `NO_SURVIVAL` for a pool above 3 or an n above `LARGEST_N`.
     fn survival(&mut self, n: u64, pool: u64) -> u64;
+    /// The same number. `terms`: how many were summed; where there is no number they stay.
+    fn survival_terms(&mut self, n: u64, pool: u64, terms: &mut u64) -> u64;
 }
 
 /// How much to compare.
@@ -81,6 +82,8 @@ pub struct Counts {
     pub histories: u64,
     /// Takings-back on any memory.
     pub takings_back: u64,
+    /// Survival numbers with their terms.
+    pub terms: u64,
     /// Accepted months of the long chain.
     pub chain: u64,
     /// Acts of each long chain with takings-back.
@@ -98,6 +101,7 @@ impl Default for Counts {
             pairs: 6_000,
             histories: 60_000,
             takings_back: 40_000,
+            terms: 24_000,
             chain: MONTH_LIMIT,
             taken_chain: 8_000,
         }
@@ -286,7 +290,13 @@ pub fn program_answer(
         }
         Call::Survival { n, pool, s } => {
             let own = program.survival(*n, *pool as u64);
-            Ok(vec![u64::from(own.abs_diff(*s) <= 1)])
+            Ok(vec![close(own, *s)])
+        }
+        Call::Terms { n, pool, s } => {
+            let mut terms = Lent::filled(fill, 1);
+            let own = program.survival_terms(*n, *pool, &mut terms.get()[0]);
+            let same = own == program.survival(*n, *pool);
+            Ok([&[close(own, *s), u64::from(same)], terms.take()?].concat())
         }
     }
 }
@@ -383,6 +393,7 @@ impl<'a> Differ<'a> {
         self.pairs(counts.pairs);
         self.takings_back(counts.takings_back);
         self.histories(counts.histories);
+        self.survival_terms(counts.terms);
         self.wrong_lengths();
         self.short_chains();
         self.long_chain(counts.chain, Plan::Mixed);
@@ -1661,6 +1672,90 @@ impl<'a> Differ<'a> {
         }
     }
 
+    // ---- Survival terms ----
+
+    /// A survival number with its terms, the lent terms holding anything. The number is what the
+    /// call without terms returns, at most 1 from the exact one and exact at w = 0; the count is
+    /// the reference's own. Where there is no number, the terms stay.
+    fn number_and_terms(&mut self, n: u64, pool: u64) {
+        let fill = self.fill();
+        let mut lent = Lent::filled(fill, 1);
+        let number = self.program.survival_terms(n, pool, &mut lent.get()[0]);
+        let given = lent.take().map(|numbers| numbers[0]);
+        let plain = self.program.survival(n, pool);
+        let count = rate(n, pool).map(|k| terms(n, k));
+        let right = match rate(n, pool) {
+            Some(k) => within(number, n, k, 1),
+            None => number == NO_SURVIVAL,
+        };
+        *self.seen.entry(("terms", count.unwrap_or(0))).or_default() += 1;
+        let same = right
+            && number == plain
+            && given == Ok(count.unwrap_or(fill))
+            && count.is_none_or(|count| count <= MOST_TERMS);
+        self.outcome(same, || {
+            format!(
+                "terms of n {n} pool {pool}, {fill} before: wanted {count:?}, given {given:?}\n\
+                 S: {number}, without terms {plain}, right: {right}"
+            )
+        });
+    }
+
+    /// An n of every size, beside one where the count changes, of a month, or beyond all.
+    fn rate_number(&mut self, k: u64) -> u64 {
+        match self.draw.below(8) {
+            0..=2 => self.sized(LARGEST_N),
+            3..=5 => {
+                let multiples = exponent_parts(LARGEST_N, k) / STEP_PARTS;
+                let multiple = u128::from(self.draw.below(multiples as u64 + 1));
+                let parts = multiple * STEP_PARTS + least_remainder(1 + self.draw.below(6));
+                let n = least_n(k, parts, LARGEST_N) + self.draw.below(5);
+                n.saturating_sub(2).min(LARGEST_N)
+            }
+            6 => {
+                let moisture = 2_000 + self.draw.below(8_001);
+                let cover = self.pick(&[6, 10]);
+                temperature_factor(self.draw.between(-60, 500)) * moisture * cover
+            }
+            _ => self.wild(&[LARGEST_N]),
+        }
+    }
+
+    /// Survival numbers with their terms: ends, drawn ones, and every temperature's on moist soil,
+    /// bare and under a crop.
+    fn survival_terms(&mut self, count: u64) {
+        let ends = [0, 1, LARGEST_N - 1, LARGEST_N, LARGEST_N + 1];
+        for n in ends
+            .into_iter()
+            .chain([1 << 32, 1 << 34, 1 << 63, u64::MAX])
+        {
+            for pool in [0, 1, 2, 3, 4, 5, 1 << 32, 1 << 63, u64::MAX] {
+                self.number_and_terms(n, pool);
+            }
+        }
+        for _ in 0..count {
+            let pool = match self.draw.below(10) {
+                0 => self.wild(&[3]),
+                _ => self.draw.below(4),
+            };
+            let n = self.rate_number(RATES[pool as usize % 4]);
+            self.number_and_terms(n, pool);
+        }
+        for temperature in -50..=500 {
+            for cover in [10, 6] {
+                for pool in 0..4 {
+                    let n = temperature_factor(temperature) * 10_000 * cover;
+                    self.number_and_terms(n, pool);
+                }
+            }
+        }
+        self.say(format!(
+            "survival terms: {count}, the ends and every temperature besides; by terms, 0 where \
+             there is no number: {}",
+            self.answers("terms")
+        ));
+    }
+
     // ---- Wrong lengths ----
 
     /// Lent memory of a fixed layout with another length: 100, and nothing written, whatever the
@@ -2353,6 +2448,27 @@ mod tests {
             }
             own_survival(n, RATES[pool as usize], self.slip == "S two off")
         }
+
+        fn survival_terms(&mut self, n: u64, pool: u64, count: &mut u64) -> u64 {
+            let number = self.survival(n, pool);
+            let Some(k) = rate(n, pool) else {
+                if self.slip == "terms of no number" {
+                    *count = 0;
+                }
+                return number;
+            };
+            *count = match self.slip {
+                "a term too many" => terms(n, k) + u64::from(terms(n, k) == 6),
+                "terms of the n before" => terms(n.saturating_sub(1), k),
+                "terms of another pool" => terms(n, RATES[(pool as usize + 1) % 4]),
+                _ => terms(n, k),
+            };
+            if self.slip == "another S with terms" && n > 0 {
+                // Close enough, but not the number without terms.
+                return number + 1;
+            }
+            number
+        }
     }
 
     fn compare(slip: &'static str) -> (u64, u64, HashMap<(&'static str, u64), u64>) {
@@ -2368,6 +2484,7 @@ mod tests {
             pairs: 300,
             histories: 3_000,
             takings_back: 2_000,
+            terms: 2_000,
             chain: 1_500,
             taken_chain: 1_000,
         });
@@ -2386,7 +2503,7 @@ mod tests {
         let lists = [0, 3, 4, 5, 6, 7, 8, 10, 12, 13, 14, 19, 15, 16, 17];
         let spin_ups = [0, 3, 4, 5, 6, 7, 9, 10, 12, 13, 14, 19, 15, 16, 17];
         let books = [0, 1, 2, 3, 4, 5, 6, 7, 8, 13, 14, 15, 16, 17];
-        let wanted: [(&str, &[u64]); 7] = [
+        let wanted: [(&str, &[u64]); 8] = [
             ("new state", &[0, 4, 5, 6, 7]),
             ("month", &months),
             ("list", &lists),
@@ -2394,6 +2511,8 @@ mod tests {
             ("taking-back", &[0, 10, 20]),
             ("table", &[0, 3, 8, 13, 14, 18]),
             ("book", &books),
+            // 0 where there is no number.
+            ("terms", &[0, 1, 2, 3, 4, 5, 6]),
         ];
         for (name, numbers) in wanted {
             for number in numbers {
@@ -2421,6 +2540,29 @@ mod tests {
             differ.takings_back(3_000);
             differ.histories(6_000);
             assert!(differ.differ > 0, "{slip}");
+        }
+    }
+
+    /// Slips in the terms are found by their section alone, and by the test lines alone.
+    #[test]
+    fn slips_of_terms_differ() {
+        for slip in [
+            "a term too many",
+            "terms of the n before",
+            "terms of another pool",
+            "another S with terms",
+            "terms of no number",
+        ] {
+            let mut quiet = |_: &str| ();
+            let mut own = Own { slip };
+            let mut differ = Differ::new(&mut own, 5, &mut quiet);
+            differ.survival_terms(3_000);
+            assert!(differ.compared > 7_000 && differ.differ > 0, "{slip}");
+            let mut quiet = |_: &str| ();
+            let mut own = Own { slip };
+            let mut differ = Differ::new(&mut own, 5, &mut quiet);
+            differ.test_lines();
+            assert!(differ.differ > 0, "{slip} in the test lines");
         }
     }
 

@@ -2,6 +2,8 @@
 //!
 //! The one fact used: for a fraction w of 0 or more, e^(-w) lies at or below each sum
 //! 1 - w + w²/2 - ... that ends on a plus term and at or above each that ends on a minus term.
+//!
+//! Change 2026-03's number of terms stands below step 4, as include/rothc.h counts them.
 
 use crate::big::{Integer, Natural};
 use crate::fraction::Fraction;
@@ -314,6 +316,81 @@ pub fn within_by_sums(s: u64, n: u64, k: u64, d: u64, last: u64) -> bool {
     }
 }
 
+// ---- Change 2026-03: how many terms of the series are summed ----
+//
+// The papers ask for a number of terms without saying how they are counted; include/rothc.h says
+// it, and these are its words in whole numbers.
+
+/// The most terms that document 02 allows for any w.
+pub const MOST_TERMS: u64 = 40;
+
+/// Term 0 of the series: 1 in parts of 2^37.
+const ONE_PARTS: u128 = 1 << 37;
+
+/// What the remainder is taken by: 1/32 in parts of 2^37.
+pub const STEP_PARTS: u128 = 1 << 32;
+
+/// w in parts of 2^37: n / 1,200,000,000,000 in parts of 2^44, rounded down, times k, over 2^7,
+/// rounded down.
+/// n × 2^44 is below 2^108, over 1,200,000,000,000 below 2^68, and times k below 2^78: all fit.
+pub fn exponent_parts(n: u64, k: u64) -> u128 {
+    assert!(k <= 1_000, "a rate of step 4");
+    let parts = ((n as u128) << 44) / EXPONENT_PARTS as u128;
+    (parts * k as u128) >> 7
+}
+
+/// r: what w is above a multiple of 1/32, in parts of 2^37.
+pub fn series_remainder(n: u64, k: u64) -> u128 {
+    exponent_parts(n, k) % STEP_PARTS
+}
+
+/// The terms before the first that is 0, for an r below 2^32. Term 0 is 2^37, and each is the one
+/// before it times r, over 2^37 times its own number, rounded down.
+/// No term is above 2^37, so term × r is below 2^69 and fits.
+pub fn terms_of_remainder(r: u128) -> u64 {
+    assert!(r < STEP_PARTS, "a remainder");
+    let mut term = ONE_PARTS;
+    let mut count = 0;
+    while term > 0 {
+        count += 1;
+        assert!(count <= MOST_TERMS, "r {r}");
+        term = term * r / (ONE_PARTS * u128::from(count));
+    }
+    count
+}
+
+/// How many terms are summed for the survival number of n and k.
+pub fn terms(n: u64, k: u64) -> u64 {
+    terms_of_remainder(series_remainder(n, k))
+}
+
+/// The least number from `low` to `high` that `holds` says yes to, if it keeps to that from there
+/// on; `high` where none below it does.
+fn least(mut low: u64, mut high: u64, holds: impl Fn(u64) -> bool) -> u64 {
+    while low < high {
+        let middle = low + (high - low) / 2;
+        if holds(middle) {
+            high = middle;
+        } else {
+            low = middle + 1;
+        }
+    }
+    low
+}
+
+/// The least r with so many terms; 2^32 where no r has as many. (Each term rises with r.)
+pub fn least_remainder(count: u64) -> u128 {
+    let least = least(0, STEP_PARTS as u64, |r| {
+        terms_of_remainder(u128::from(r)) >= count
+    });
+    u128::from(least)
+}
+
+/// The least n whose w has at least so many parts of 2^37, or `most` if that has fewer.
+pub fn least_n(k: u64, parts: u128, most: u64) -> u64 {
+    least(0, most, |n| exponent_parts(n, k) >= parts)
+}
+
 #[cfg(test)]
 mod tests {
     use super::*;
@@ -502,5 +579,148 @@ mod tests {
         assert_eq!(survival_nearest(12_000_000_000, 1000), 45_400);
         // Tiny w: the range is cut at 1,000,000,000.
         assert_eq!(allowed_range(1, 1), (BILLION - 3, BILLION));
+    }
+
+    /// The largest N of step 4.
+    const LARGEST: u64 = 8_363_900_000;
+
+    /// The header's words once more, in numbers without a size limit, every term kept.
+    fn terms_in_naturals(n: u64, k: u64) -> Vec<Natural> {
+        let power = |exponent: u32| Natural::from(1u128 << exponent);
+        let down = |top: &Natural, bottom: &Natural| top.div_rem(bottom).0;
+        let parts = down(
+            &Natural::from(n).mul(&power(44)),
+            &Natural::from(EXPONENT_PARTS),
+        );
+        let w = down(&parts.mul_u64(k), &power(7));
+        let r = w.div_rem(&power(32)).1;
+        let mut terms = vec![power(37)];
+        for number in 1.. {
+            let last = terms.last().expect("term 0");
+            let next = down(&last.mul(&r), &power(37).mul_u64(number));
+            if next.is_zero() {
+                break;
+            }
+            terms.push(next);
+        }
+        terms
+    }
+
+    #[test]
+    fn terms_by_hand() {
+        for k in RATES {
+            assert_eq!(terms(0, k), 1);
+        }
+        // n 1: 14.66 parts of 2^44, rounded down 14. DPM 14,000 / 128 = 109.4: r is 109, and
+        // 109² / 2^38 is 0. RPM 420 / 128 and BIO 924 / 128 leave 3 and 7. HUM 28 / 128 is 0.
+        for (k, r, count) in [(1000, 109, 2), (30, 3, 2), (66, 7, 2), (2, 0, 1)] {
+            assert_eq!((series_remainder(1, k), terms(1, k)), (r, count), "{k}");
+        }
+        // HUM: 58 × 2 / 128 is 0, 73 × 2 / 128 is 1.
+        assert_eq!((terms(4, 2), terms(5, 2)), (1, 2));
+        // n 37,500,000 is 1/32 of 1,200,000,000: w is 1/32 for DPM, but its parts of 2^44,
+        // 549,755,813.888, are rounded down: 549,755,813,000 / 128 = 4,294,967,289.06, 7 short.
+        assert_eq!(series_remainder(37_500_000, 1000), STEP_PARTS - 7);
+        assert_eq!(terms(37_500_000, 1000), 6);
+        // One n more: 549,755,828,000 / 128 = 4,294,967,406.25, 110 above.
+        assert_eq!(series_remainder(37_500_001, 1000), 110);
+        assert_eq!(terms(37_500_001, 1000), 2);
+        // January 1852, n 356,100,000: 5,220,481,208 parts of 2^44. DPM has 40,785,009,437 of
+        // 2^37, 9 × 2^32 and r; its terms are r, 16,509,854, 85,300, 330, 1 and 0. RPM's are r,
+        // 5,446,328, 16,161, 35 and 0, HUM's r, 24,205, 4 and 0.
+        for (k, r, count) in [
+            (1000, 2_130_303_773, 6),
+            (30, 1_223_550_283, 5),
+            (66, 2_691_810_622, 6),
+            (2, 81_570_018, 4),
+        ] {
+            let n = 356_100_000;
+            assert_eq!((series_remainder(n, k), terms(n, k)), (r, count), "{k}");
+        }
+    }
+
+    /// Where each count begins: r² reaches 2^38 at 2^19, and so on up to 6.
+    #[test]
+    fn remainders_of_counts() {
+        assert_eq!(least_remainder(1), 0);
+        assert_eq!(least_remainder(2), 1);
+        assert_eq!(least_remainder(3), 1 << 19);
+        for count in 2..=6 {
+            let first = least_remainder(count);
+            assert_eq!(terms_of_remainder(first), count);
+            assert_eq!(terms_of_remainder(first - 1), count - 1);
+        }
+        // At 2^32 - 1 the terms are r, 67,108,863, 699,050, 5,461, 34 and 0.
+        assert_eq!(terms_of_remainder(STEP_PARTS - 1), 6);
+        assert_eq!(least_remainder(7), STEP_PARTS);
+    }
+
+    #[test]
+    fn terms_against_naturals() {
+        let mut seed = 2_603u64;
+        let mut seen = [[0u64; 8]; 4];
+        for round in 0..6_000 {
+            seed = seed
+                .wrapping_mul(6_364_136_223_846_793_005)
+                .wrapping_add(1_442_695_040_888_963_407);
+            let n = match round {
+                0..40 => round,
+                40..80 => LARGEST - (round - 40),
+                80 => u64::MAX,
+                // Of every size.
+                _ if round % 2 == 0 => (seed >> 31) >> (round / 2 % 33),
+                _ => (seed >> 20) % (LARGEST + 1),
+            };
+            for (pool, k) in RATES.into_iter().enumerate() {
+                let count = terms(n, k);
+                assert!((1..=MOST_TERMS).contains(&count));
+                assert_eq!(count, terms_in_naturals(n, k).len() as u64, "n {n} k {k}");
+                if n <= LARGEST {
+                    seen[pool][count as usize] += 1;
+                }
+            }
+        }
+        for (pool, seen) in seen.iter().enumerate() {
+            let most = if pool == 3 { 5 } else { 6 };
+            for (count, times) in seen.iter().enumerate() {
+                let occurs = (1..=most).contains(&count);
+                assert_eq!(*times > 0, occurs, "pool {pool} count {count}");
+            }
+        }
+    }
+
+    /// All n beside every multiple of 1/32, and beside every n where the count changes.
+    #[test]
+    fn terms_beside_multiples() {
+        let mut zeros = Vec::new();
+        for (k, most) in RATES.into_iter().zip([223, 6, 14, 0]) {
+            let multiples = exponent_parts(LARGEST, k) / STEP_PARTS;
+            assert_eq!(multiples, most);
+            for multiple in 0..=multiples {
+                // w has more parts with each n but for HUM: only this n can have r = 0.
+                let first = least_n(k, multiple * STEP_PARTS, LARGEST);
+                if first > 0 && series_remainder(first, k) == 0 {
+                    zeros.push((first, k));
+                }
+                for count in 1..=6 {
+                    let parts = multiple * STEP_PARTS + least_remainder(count);
+                    let first = least_n(k, parts, LARGEST);
+                    if exponent_parts(first, k) < parts {
+                        continue;
+                    }
+                    if count > 1 {
+                        assert_eq!(terms(first, k), count);
+                        // From 6 to 2, where no n has r = 0 at the multiple.
+                        let before = terms(first - 1, k);
+                        let fell = count == 2 && multiple > 0 && before == 6;
+                        assert!(before == count - 1 || fell, "n {first} k {k}");
+                    }
+                    for n in first.saturating_sub(3)..=(first + 3).min(LARGEST) {
+                        assert_eq!(terms(n, k), terms_in_naturals(n, k).len() as u64);
+                    }
+                }
+            }
+        }
+        assert_eq!(zeros, [(4_687_500_000, 1000), (2_840_909_091, 66)]);
     }
 }

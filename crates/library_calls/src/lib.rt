@@ -1,7 +1,10 @@
 // The functions of include/rothc.h, for C, Rust and Python: each is its body's, in a crate beside
 // this one, where its wrong programs are tried. An export can only be of its own crate.
+ghost use mathlib.Core.Bool.{true};
 ghost use mathlib.Core.Path.{_≡_};
-ghost use Rattle.library_month.specs.Calls.{rothcSurvival, rothcStart, rothcMonth};
+ghost use Prim.Native.Nat.{_≤_};
+ghost use Rattle.library_survival.specs.Calls.{hasSurvival, rothcSurvival, rothcSurvivalTerms};
+ghost use Rattle.library_month.specs.Calls.{rothcStart, rothcMonth};
 ghost use Rattle.library_back.specs.Calls.{rothcTakeBack};
 ghost use Rattle.library_list.specs.Calls.{rothcList, rothcSpinUp};
 ghost use Rattle.library_book.specs.Calls.{rothcBook};
@@ -11,7 +14,16 @@ ghost use Rattle.library_table.specs.Calls.{rothcTable};
 pub extern "C" fn rothc_survival(n: u64, pool: u64) -> u64
     ensures { λ r. ⌜ r ≡ rothcSurvival n pool ⌝ }
 {
-    library_month::survival(n, pool)
+    library_survival::survival(n, pool)
+}
+
+#[no_mangle]
+pub extern "C" fn rothc_survival_terms(n: u64, pool: u64, terms: &mut u64) -> u64
+    ensures left { λ r. ⌜ record { survival = r; terms = now (terms .exit) }
+        ≡ rothcSurvivalTerms n pool (now (terms .entry)) ⌝ }
+    ensures few { λ r. ⌜ (hasSurvival n pool ≡ true → now (terms .exit) ≤ 40) ⌝ }
+{
+    library_survival::survival_terms(n, pool, terms)
 }
 
 #[no_mangle]

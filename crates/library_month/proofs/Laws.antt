@@ -3,12 +3,11 @@
 use mathlib.Core.Path.{_≡_, _∙_, ap, ap₂}
 use mathlib.Core.Bool.{true, false}
 use mathlib.Core.List.{List}
-use Prim.Native.Nat.{ℕ, _≤_, _<_}
-use borrow.Author.Tests.{le-leb, lt-leb, eq-eqb, ne-eqb}
+use Prim.Native.Nat.{ℕ}
+use borrow.Author.Tests.{eq-eqb, ne-eqb}
 use lib.IntN.{ℤ}
-use lib.ListN.{length, getD}
+use lib.ListN.{length}
 use lib.Seq.{sets}
-use Rattle.step_decay.specs.Rates.{survivals}
 use Rattle.month_state.specs.declared.Soil.{Soil}
 use Rattle.month_state.specs.declared.State.{State}
 use Rattle.month_state.specs.declared.Entries.{Entries}
@@ -29,7 +28,7 @@ use Rattle.month_call.specs.declared.Answer.the-variants.{Done, Refused}
 use Rattle.month_call.specs.declared.Outcome.{Outcome}
 use Rattle.month_call.specs.Month.{monthCall}
 use Rattle.kept_months.specs.Kept.{keepIf}
-use Rattle.library_month.specs.Calls.{shape, has, noSurvival, rothcSurvival, rothcStart, rothcMonth}
+use Rattle.library_month.specs.Calls.{shape, has, rothcStart, rothcMonth}
 
 -- A list has so many numbers, or it has not.
 pub right : {A : Type 0} (numbers : List A) (n : ℕ) → length numbers ≡ n → has numbers n ≡ true
@@ -37,20 +36,6 @@ right numbers n h = eq-eqb (length numbers) n h
 
 pub wrong : {A : Type 0} (numbers : List A) (n : ℕ) → (length numbers ≡ n → ⊥) → has numbers n ≡ false
 wrong numbers n h = ne-eqb (length numbers) n h
-
--- ---- rothc_survival
-
-pub no-pool : (n pool : ℕ) → 3 < pool → noSurvival ≡ rothcSurvival n pool
-unfolding rothcSurvival
-no-pool n pool h = rw (lt-leb pool 3 h)
-
-pub no-rate : (n pool : ℕ) → pool ≤ 3 → 8363900000 < n → noSurvival ≡ rothcSurvival n pool
-unfolding rothcSurvival
-no-rate n pool h above = rw (le-leb pool 3 h, lt-leb n 8363900000 above)
-
-pub survives : (n pool : ℕ) → pool ≤ 3 → n ≤ 8363900000 → getD (survivals n) pool 0 ≡ rothcSurvival n pool
-unfolding rothcSurvival
-survives n pool h most = rw (le-leb pool 3 h, le-leb n 8363900000 most)
 
 -- ---- rothc_start
 

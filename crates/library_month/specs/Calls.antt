@@ -1,13 +1,12 @@
--- What rothc_survival, rothc_start and rothc_month return and leave in lent memory. Memory that a
+-- What rothc_start and rothc_month return and leave in lent memory. Memory that a
 -- call is lent to read stays as it was. A state is lent as a field: the current one, and after it
 -- the memory of the kept ones.
 use mathlib.Core.Bool.{Bool, cond, _&&_}
 use mathlib.Core.List.{List}
 use Prim.Native.Nat.{ℕ}
-use lib.Dec.{leb, eqb}
+use lib.Dec.{eqb}
 use lib.IntN.{ℤ}
-use lib.ListN.{length, getD}
-use Rattle.step_decay.specs.Rates.{survivals}
+use lib.ListN.{length}
 use Rattle.month_state.specs.declared.Soil.{Soil}
 use Rattle.month_state.specs.declared.State.{State}
 use Rattle.month_state.specs.State.{newState}
@@ -33,17 +32,6 @@ shape = 100
 -- A list has so many numbers.
 abbrev pub has : {A : Type 0} → List A → ℕ → Bool
 has numbers n = eqb (length numbers) n
-
--- ---- rothc_survival
-
--- Returned where there is no survival number to give.
-abbrev pub noSurvival : ℕ
-noSurvival = 18446744073709551615
-
--- Step 4's S of a pool (0 DPM, 1 RPM, 2 BIO, 3 HUM) at the rate number n. A month's rate number is
--- at most 8,363,900,000.
-unfoldable pub rothcSurvival : ℕ → ℕ → ℕ
-rothcSurvival n pool = cond (leb pool 3 && leb n 8363900000) (getD (survivals n) pool 0) noSurvival
 
 -- ---- rothc_start
 

@@ -1,8 +1,8 @@
-// The bodies of rothc_survival, rothc_start and rothc_month: numbers and slices of numbers in lent
-// memory. Each call returns the papers' refusal number, 0 where nothing is refused, and 100 where
-// memory of a fixed layout has another length.
+// The bodies of rothc_start and rothc_month: numbers and slices of numbers in lent memory. Each call
+// returns the papers' refusal number, 0 where nothing is refused, and 100 where memory of a fixed
+// layout has another length.
 ghost use mathlib.Core.Path.{_≡_};
-ghost use Rattle.library_month.specs.Calls.{rothcSurvival, rothcStart, rothcMonth};
+ghost use Rattle.library_month.specs.Calls.{rothcStart, rothcMonth};
 use kept_demand3::call;
 use list_rows::ENTRIES_WIDTH;
 use list_rows::ROW_WIDTH;
@@ -22,22 +22,6 @@ use month_state::State;
 
 // What is returned for a length that no layout has. It is none of the papers' numbers.
 pub const SHAPE: u64 = 100;
-
-// Step 4's survival number of a pool (0 DPM, 1 RPM, 2 BIO, 3 HUM) at a rate number, or the largest
-// number where the pool is none of these or the rate number is no month's.
-pub fn survival(n: u64, pool: u64) -> u64
-    ensures { λ r. ⌜ r ≡ rothcSurvival n pool ⌝ }
-{
-    if 3 < pool {
-        return 18_446_744_073_709_551_615;
-    }
-    if 8_363_900_000 < n {
-        return 18_446_744_073_709_551_615;
-    }
-    let four = step_decay::survivals(n);
-    let i = pool as usize;
-    four[i]
-}
 
 // The new state of a soil that none of 4 to 7 refuses.
 pub fn start(soil: &[u64], state: &mut [u64]) -> u64

@@ -2,14 +2,17 @@
 // keep and lose, what the losses form.
 ghost use mathlib.Core.Path.{_≡_};
 ghost use Prim.Native.Nat.{_≤_, _<_, _^_};
+ghost use lib.ListN.{getD};
 ghost use Rattle.step_pools.specs.Pools.{total};
 ghost use Rattle.step_decay.specs.Decay.{Survivals, lost, losses, formed, carbonDioxide};
 ghost use Rattle.step_decay.specs.Decay.{toBio, decayed, split, Within};
-ghost use Rattle.step_decay.specs.Rates.{survivals};
+ghost use Rattle.step_decay.specs.Rates.{survivals, termCounts};
 use number_units::Grams;
 use step_pools::share;
 use step_pools::total;
+use step_survival::Counted;
 use step_survival::survival;
+use step_survival::survival_counted;
 
 // The rates K of the four pools, in hundredths a year.
 pub const RATES: [u64; 4] = [1000, 30, 66, 2];
@@ -24,6 +27,16 @@ pub fn survivals(n: u64) -> [u64; 4]
     let bio = survival(n, RATES[2]);
     let hum = survival(n, RATES[3]);
     [dpm, rpm, bio, hum]
+}
+
+// One pool's survival number, as `survivals` has it, and how many terms were summed for it. pool is
+// 0 for DPM, 1 for RPM, 2 for BIO, 3 for HUM.
+pub fn pool_counted(n: u64, pool: usize) -> Counted
+    requires { ⌜ (n ≤ 8363900000) × (pool < 4) ⌝ }
+    ensures survival { λ c. ⌜ c .survival ≡ getD (survivals n) pool 0 ⌝ }
+    ensures terms { λ c. ⌜ (c .terms ≡ getD (termCounts n) pool 0) × (c .terms ≤ 40) ⌝ }
+{
+    survival_counted(n, RATES[pool])
 }
 
 // What a pool of y grams loses at the survival number s.

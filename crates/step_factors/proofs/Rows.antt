@@ -3,10 +3,8 @@
 use mathlib.Core.Path.{_≡_, sym, _∙_, ap}
 use mathlib.Core.Bool.{Bool, _&&_}
 use mathlib.Core.List.{List}
-use mathlib.Core.Logic.{_⊎_, ⊎-elim}
-use Prim.Native.Nat.{ℕ, zero, suc, _+_, _*_, _/_, _%_, _≤_, _<_}
+use Prim.Native.Nat.{ℕ, _+_, _*_, _/_, _%_, _<_}
 use native.Mathlib.Nat.{div-add-mod, mod-lt}
-use native.Mathlib.Omega.{arith}
 use lib.Dec.{T, eqb, eqb→eq}
 use lib.ListN.{length, drop, getD}
 use lib.Seq.{getD-drop}
@@ -34,17 +32,3 @@ by-row table w n i {found} {row} pos same e t =
     ∙ (eqb→eq (getD row (i % w) 0) (getD from (i % w) 0) passed
     ∙ (getD-drop (w * n) table (i % w) 0
     ∙ ap (λ k. getD table k 0) (ap (λ m. w * m + i % w) (sym e) ∙ div-add-mod i w)))
-
--- what the last arm of a `match` knows: x is none of the numbers below n
-abbrev pub NoneBelow : ℕ → ℕ → Type 0
-NoneBelow zero x = Unit {0}
-NoneBelow (suc n) x = NoneBelow n x × (x ≡ n → ⊥)
-
-pub none-below : (n x : ℕ) → NoneBelow n x → n ≤ x
-none-below zero x none = omega arith
-none-below (suc n) x none = let le : n ≤ x = none-below n x (none .0) in omega (arith, none .1)
-
--- one arm of a `match`, or a later one
-infixr 1 _or_
-abbrev pub _or_ : {A B C : Type 0} → (A → C) → (B → C) → A ⊎ B → C
-f or g = ⊎-elim f g

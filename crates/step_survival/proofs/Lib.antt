@@ -1,4 +1,4 @@
-pub mod Table
+pub mod Count
 pub mod Series
 pub mod Steps
 pub mod Laws

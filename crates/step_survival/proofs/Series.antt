@@ -1,73 +1,62 @@
--- The series: its terms are at most 3 below the exact ones, so e^(-r) is at most 12 from it, in parts of 2^38.
--- Assumes nothing.
-use mathlib.Core.Path.{_≡_, refl, sym, _∙_, ap}
-use Prim.Native.Nat.{ℕ, zero, suc, _+_, _-_, _*_, _/_, _%_, _^_, _≤_, _<_}
-use native.Mathlib.Nat.{pow-suc, pow-zero, mul-le-mul-left, mul-le-mul, le-of-mul-le-mul-left, div-mul-le-self, lt-div-mul-add}
+-- The series: its terms are at most 2 below the exact ones, the seventh is 0, and e^(-r) is at most 8 from the sum of the
+-- others, in parts of 2^37. Assumes nothing.
+use mathlib.Core.Path.{_≡_, refl, ap}
+use mathlib.Core.Bool.{cond}
+use mathlib.Core.List.{List, [], _∷_}
+use Prim.Native.Nat.{ℕ, zero, suc, _+_, _-_, _*_, _/_, _^_, _≤_, _<_}
+use native.Mathlib.Nat.{pow-suc, pow-zero, mul-le-mul-left, le-of-mul-le-mul-left, div-mul-le-self, lt-div-mul-add, sub-zero}
 use native.Mathlib.Omega.{arith}
-use lib.Dec.{lit<}
+use borrow.Author.Tests.{ne-eqb}
+use lib.Dec.{eqb, lit<}
 use Rattle.number_exact.proofs.Laws.{below-by-sum, above-by-sum}
 use Rattle.number_exact.specs.Exponential.{agreeing, opposing, denominator, AtOrBelow, AtOrAbove}
-use Rattle.step_survival.specs.Survival.{term, series}
+use Rattle.step_survival.specs.Series.{term, termsFrom, summedTerms, alternating, series}
+use Rattle.step_survival.proofs.Count.{none-more}
 
 -- a quotient, rounded down: t × d ≤ x < (t + 1) × d
 quotient : (x d : ℕ) → 0 < d → (x / d * d ≤ x) × (x < x / d * d + d)
 quotient x d pos = (div-mul-le-self x d, lt-div-mul-add pos)
 
--- r is rest / whole in parts of 2^38, rounded down, and below 1/64
-pub record IsPart (r rest whole : ℕ) : Type 0 where
-  pub positive : 0 < whole
-  pub low : r * whole ≤ 2 ^ 38 * rest
-  pub high : 2 ^ 38 * rest ≤ (r + 1) * whole
-  pub small : r < 2 ^ 32
+-- ---- each term beside the one before it
 
--- a term is at most 64 × (k + 1) times smaller than the one before it
-pub term-falls : (r k : ℕ) → r < 2 ^ 32 → 64 * suc k * term r (suc k) ≤ term r k
+-- a term is at most a 32 × (k + 1)th of the one before it
+pub term-falls : (r k : ℕ) → r < 2 ^ 32 → 32 * suc k * term r (suc k) ≤ term r k
 unfolding term
 term-falls r k small =
     le-of-mul-le-mul-left {k = 2 ^ 32}
-    (omega (arith, quotient (term r k * r) (2 ^ 38 * suc k) (omega arith) .0, mul-le-mul-left (term r k) small)) (lit< tt)
-
-pub term-most : (r k : ℕ) → r < 2 ^ 32 → term r k ≤ 2 ^ 38
-unfolding term
-term-most r zero small = omega arith
-term-most r (suc k) small = omega (arith, term-falls r k small, term-most r k small)
-
-next-term :
-    (z r t e c : ℕ) → t * r < e * (z * c) + z * c → t ≤ z → 0 < c → 3 * (r + 1) ≤ z → (t + 3) * (r + 1) ≤ (e + 3) * (z * c)
-next-term z r t e c quot most some small = omega (arith, quot, most, small, mul-le-mul-left z some)
+    (omega (arith, quotient (term r k * r) (2 ^ 37 * suc k) (omega arith) .0, mul-le-mul-left (term r k) small)) (lit< tt)
 
 -- z is the scale, t the term and n / d the exact one; e is the next term, of which c is the index: e × z × c ≤ t × r < (e + 1) × z × c
 low-step :
-    (z r rest whole t d n e c : ℕ) → 0 < z → r * whole ≤ z * rest → t * d ≤ z * n → e * (z * c) ≤ t * r
-    → e * (d * (whole * c)) ≤ z * (n * rest)
-low-step z r rest whole t d n e c pos low before quot =
-    le-of-mul-le-mul-left {k = z}
-    (omega (arith, mul-le-mul-left (d * whole) quot, mul-le-mul before low)) pos
+    (z r t d n e c : ℕ) → t * d ≤ z * n → e * (z * c) ≤ t * r → e * (d * (z * c)) ≤ z * (n * r)
+low-step z r t d n e c before quot = omega (arith, mul-le-mul-left d quot, mul-le-mul-left r before)
+
+next-term : (z r t e c : ℕ) → t * r < e * (z * c) + z * c → 0 < c → 2 * r ≤ z → (t + 2) * r ≤ (e + 2) * (z * c)
+next-term z r t e c quot some small = omega (arith, quot, small, mul-le-mul-left z some)
 
 high-step :
-    (z r rest whole t d n e c : ℕ) → 0 < z → z * rest ≤ (r + 1) * whole → z * n ≤ (t + 3) * d → t * r < e * (z * c) + z * c
-    → t ≤ z → 0 < c → 3 * (r + 1) ≤ z → z * (n * rest) ≤ (e + 3) * (d * (whole * c))
-high-step z r rest whole t d n e c pos high before quot most some small =
-    le-of-mul-le-mul-left {k = z}
-    (omega (arith, mul-le-mul before high, mul-le-mul-left (d * whole) (next-term z r t e c quot most some small))) pos
+    (z r t d n e c : ℕ) → z * n ≤ (t + 2) * d → t * r < e * (z * c) + z * c → 0 < c → 2 * r ≤ z
+    → z * (n * r) ≤ (e + 2) * (d * (z * c))
+high-step z r t d n e c before quot some small =
+    omega (arith, mul-le-mul-left r before, mul-le-mul-left d (next-term z r t e c quot some small))
 
-module _ {r rest whole : ℕ} (part : IsPart r rest whole) where
-  -- the exact term k is 2^38 × rest^k over whole^k × k!
-  pub term-low : (k : ℕ) → term r k * denominator whole k ≤ 2 ^ 38 * rest ^ k
+module _ (r : ℕ) where
+  -- the exact term k is 2^37 × r^k over (2^37)^k × k!
+  term-low : (k : ℕ) → term r k * denominator (2 ^ 37) k ≤ 2 ^ 37 * r ^ k
   unfolding term denominator
-  term-low zero = omega (arith, pow-zero rest)
+  term-low zero = omega (arith, pow-zero r)
   term-low (suc k) =
-      rw (pow-suc rest k)
-      (low-step (2 ^ 38) r rest whole (term r k) (denominator whole k) (rest ^ k) (term r (suc k)) (suc k) (lit< tt) (part .low) (term-low k)
-      (quotient (term r k * r) (2 ^ 38 * suc k) (omega arith) .0))
+      rw (pow-suc r k)
+      (low-step (2 ^ 37) r (term r k) (denominator (2 ^ 37) k) (r ^ k) (term r (suc k)) (suc k) (term-low k)
+      (quotient (term r k * r) (2 ^ 37 * suc k) (omega arith) .0))
 
-  pub term-high : (k : ℕ) → 2 ^ 38 * rest ^ k ≤ (term r k + 3) * denominator whole k
+  term-high : r < 2 ^ 32 → (k : ℕ) → 2 ^ 37 * r ^ k ≤ (term r k + 2) * denominator (2 ^ 37) k
   unfolding term denominator
-  term-high zero = omega (arith, pow-zero rest)
-  term-high (suc k) =
-      rw (pow-suc rest k)
-      (high-step (2 ^ 38) r rest whole (term r k) (denominator whole k) (rest ^ k) (term r (suc k)) (suc k) (lit< tt) (part .high) (term-high k)
-      (quotient (term r k * r) (2 ^ 38 * suc k) (omega arith) .1) (term-most r k (part .small)) (omega arith) (omega (arith, part .small)))
+  term-high small zero = omega (arith, pow-zero r)
+  term-high small (suc k) =
+      rw (pow-suc r k)
+      (high-step (2 ^ 37) r (term r k) (denominator (2 ^ 37) k) (r ^ k) (term r (suc k)) (suc k) (term-high small k)
+      (quotient (term r k * r) (2 ^ 37 * suc k) (omega arith) .1) (omega arith) (omega arith))
 
 -- the numbers of a list added by sign, as the sums of e^(-w) are: those of the last one's sign, and the others
 mutual
@@ -109,40 +98,66 @@ module _ (z a b : ℕ) (f g : ℕ → ℕ) (low : (k : ℕ) → f k * denominato
   sum-above : (x l : ℕ) → agreeingOf g l ≤ x + opposingOf f l → z * agreeing a b l ≤ x * denominator b l + z * opposing a b l
   sum-above x l h = omega (arith, mul-le-mul-left (denominator b l) h, agreeing-high l, opposing-low l)
 
-pub start : (r : ℕ) → term r 0 ≡ 2 ^ 38
+-- ---- the terms that are summed
+
+-- a term less the rest, also where it is 0 and nothing is summed
+less : (t : ℕ) (rest : List ℕ) → alternating (cond (eqb t 0) [] (t ∷ rest)) ≡ t - alternating rest
+unfolding alternating
+less zero rest = omega arith
+less (suc t) rest = rw (ne-eqb (suc t) 0 (λ z. omega arith))
+
+unrolled : (most r k : ℕ) → alternating (termsFrom (suc most) r k) ≡ term r k - alternating (termsFrom most r (suc k))
+unfolding termsFrom
+unrolled most r k = less (term r k) (termsFrom most r (suc k))
+
+pub start : (r : ℕ) → term r 0 ≡ 2 ^ 37
 unfolding term
 start r = refl
 
 module _ (r : ℕ) (small : r < 2 ^ 32) where
-  -- each term is far below the one before it
+  -- each term is far below the one before it, and the seventh is 0
   pub falling :
-      (64 * term r 1 ≤ term r 0) × (128 * term r 2 ≤ term r 1) × (192 * term r 3 ≤ term r 2) × (256 * term r 4 ≤ term r 3)
-      × (320 * term r 5 ≤ term r 4)
+      (32 * term r 1 ≤ term r 0) × (64 * term r 2 ≤ term r 1) × (96 * term r 3 ≤ term r 2) × (128 * term r 4 ≤ term r 3)
+      × (160 * term r 5 ≤ term r 4)
   falling = (term-falls r 0 small, term-falls r 1 small, term-falls r 2 small, term-falls r 3 small, term-falls r 4 small)
 
-  pub series-sum : series r + (term r 1 + term r 3 + term r 5) ≡ term r 0 + term r 2 + term r 4
-  unfolding series
-  series-sum = omega (arith, falling)
+  pub seventh : term r 6 ≡ 0
+  seventh = omega (arith, falling, start r, term-falls r 5 small)
 
-  pub series-most : series r ≤ 2 ^ 38
+  -- of the sum's terms the first six are left
+  pub six : series r ≡ term r 0 - (term r 1 - (term r 2 - (term r 3 - (term r 4 - term r 5))))
+  unfolding series summedTerms alternating
+  six =
+      rw (
+        unrolled 39 r 0,
+        unrolled 38 r 1,
+        unrolled 37 r 2,
+        unrolled 36 r 3,
+        unrolled 35 r 4,
+        unrolled 34 r 5,
+        none-more 34 r 6 seventh,
+        sub-zero (term r 5),
+      )
+
+  pub series-sum : series r + (term r 1 + term r 3 + term r 5) ≡ term r 0 + term r 2 + term r 4
+  series-sum = omega (arith, falling, six)
+
+  pub series-most : series r ≤ 2 ^ 37
   series-most = omega (arith, falling, series-sum, start r)
 
-  pub series-least : 2 ^ 37 ≤ series r
+  pub series-least : 2 ^ 37 - 2 ^ 32 ≤ series r
   series-least = omega (arith, falling, series-sum, start r)
 
-module _ {r rest whole : ℕ} (part : IsPart r rest whole) where
-  pub series-below : AtOrBelow (series r - 12) (2 ^ 38) rest whole
+  pub series-below : AtOrBelow (series r - 8) (2 ^ 37) r (2 ^ 37)
   unfolding agreeingOf opposingOf
   series-below =
-      let small : r < 2 ^ 32 = part .small in
-      below-by-sum (series r - 12) (2 ^ 38) rest whole 5 (part .positive) refl
-      (sum-below (2 ^ 38) rest whole (term r) (λ k. term r k + 3) (term-low part) (term-high part) (series r - 12) 5
-      (omega (arith, falling r small, series-sum r small, start r, series-least r small)))
+      below-by-sum (series r - 8) (2 ^ 37) r (2 ^ 37) 5 (lit< tt) refl
+      (sum-below (2 ^ 37) r (2 ^ 37) (term r) (λ k. term r k + 2) (term-low r) (term-high r small) (series r - 8) 5
+      (omega (arith, falling, series-sum, start r, series-least)))
 
-  pub series-above : AtOrAbove (series r + 12) (2 ^ 38) rest whole
+  pub series-above : AtOrAbove (series r + 8) (2 ^ 37) r (2 ^ 37)
   unfolding agreeingOf opposingOf
   series-above =
-      let small : r < 2 ^ 32 = part .small in
-      above-by-sum (series r + 12) (2 ^ 38) rest whole 4 (part .positive) refl
-      (sum-above (2 ^ 38) rest whole (term r) (λ k. term r k + 3) (term-low part) (term-high part) (series r + 12) 4
-      (omega (arith, falling r small, series-sum r small, start r)))
+      above-by-sum (series r + 8) (2 ^ 37) r (2 ^ 37) 6 (lit< tt) refl
+      (sum-above (2 ^ 37) r (2 ^ 37) (term r) (λ k. term r k + 2) (term-low r) (term-high r small) (series r + 8) 6
+      (omega (arith, falling, series-sum, start r, seventh)))

@@ -1,2 +1,3 @@
-pub mod Powers
+pub mod Series
 pub mod Survival
+pub mod Served

@@ -1,10 +1,11 @@
 -- Step 4 of document 01: the rate number N, and how the program finds the survival number of w = a
--- / b.
+-- × k / b.
 use mathlib.Core.Bool.{Bool, true, false}
 use mathlib.Core.Path.{_≡_}
-use Prim.Native.Nat.{ℕ, zero, suc, _+_, _-_, _*_, _/_, _%_, _^_, _≤_}
+use Prim.Native.Nat.{ℕ, _+_, _*_, _/_, _%_, _^_, _≤_}
 use Rattle.number_exact.specs.Exponential.{AtMostFrom}
-use Rattle.step_survival.specs.Powers.{powerAt}
+use Rattle.step_powers.specs.Powers.{powerAt}
+use Rattle.step_survival.specs.Series.{series, termCount}
 
 -- 6 under a crop, 10 on bare soil.
 abbrev pub coverFactor : Bool → ℕ
@@ -15,30 +16,38 @@ coverFactor false = 10
 unfoldable pub rateNumber : Bool → ℕ → ℕ → ℕ
 rateNumber crop a b = a * b * coverFactor crop
 
--- w = a / b is i / 64 + r with r below 1/64: the i, and the r in parts of 2^38, rounded down.
-unfoldable pub sixtyFourths : ℕ → ℕ → ℕ
-sixtyFourths a b = 64 * a / b
+-- a / b in parts of 2^44, rounded down: one division, whatever the rate k.
+unfoldable pub ratio : ℕ → ℕ → ℕ
+ratio a b = a * 2 ^ 44 / b
 
-unfoldable pub remainder : ℕ → ℕ → ℕ
-remainder a b = 64 * a % b * 2 ^ 32 / b
+-- w = a × k / b in parts of 2^37, rounded down.
+unfoldable pub parts : ℕ → ℕ → ℕ → ℕ
+parts a b k = ratio a b * k / 2 ^ 7
 
--- Term k of e^(-r), r^k / k!, in parts of 2^38: each comes from the one before it.
-unfoldable pub term : ℕ → ℕ → ℕ
-term r zero = 2 ^ 38
-term r (suc k) = term r k * r / (2 ^ 38 * suc k)
+-- The survival number of w in parts of 2^37: w is i / 32 + r with r below 1/32, and this is
+-- e^(-i/32) × e^(-r) in billionths, rounded to the nearest, halves up. `powerAt` has e^(-i/32) in
+-- quarters of a billionth.
+unfoldable pub survivalAt : ℕ → ℕ
+survivalAt p = (powerAt (p / 2 ^ 32) * series (p % 2 ^ 32) + 2 ^ 38) / 2 ^ 39
 
--- e^(-r) in parts of 2^38. Six terms serve, as r is below 1/64.
-unfoldable pub series : ℕ → ℕ
-series r = term r 0 + term r 2 + term r 4 - (term r 1 + term r 3 + term r 5)
+-- How many terms are summed for it.
+unfoldable pub termsAt : ℕ → ℕ
+termsAt p = termCount (p % 2 ^ 32)
 
--- The survival number of w = a / b: e^(-i/64) × e^(-r) in billionths, rounded to the nearest,
--- halves up. `powerAt` has e^(-i/64) in 1024ths of a billionth.
-unfoldable pub survivalOf : ℕ → ℕ → ℕ
-survivalOf a b = (powerAt (sixtyFourths a b) * series (remainder a b) / 2 ^ 38 + 512) / 1024
+-- The same of w = a × k / b.
+unfoldable pub survivalOf : ℕ → ℕ → ℕ → ℕ
+survivalOf a b k = survivalAt (parts a b k)
+
+unfoldable pub termsOf : ℕ → ℕ → ℕ → ℕ
+termsOf a b k = termsAt (parts a b k)
 
 -- S for the rate number N and a rate K in hundredths a year: w = N × K / 1,200,000,000,000.
 unfoldable pub survivalNumber : ℕ → ℕ → ℕ
-survivalNumber n k = survivalOf (n * k) 1200000000000
+survivalNumber n k = survivalOf n 1200000000000 k
+
+-- How many terms are summed for S.
+unfoldable pub survivalTerms : ℕ → ℕ → ℕ
+survivalTerms n k = termsOf n 1200000000000 k
 
 -- What document 01 asks of S: at most 3 from 1,000,000,000 × e^(-w), 0 to 1,000,000,000, and
 -- exactly that when w is 0.

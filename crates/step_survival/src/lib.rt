@@ -1,14 +1,17 @@
 // Step 4 of document 01: the rate number N, and the survival number S(N, K) in integers of 64 bits.
-mod powers;
-
 ghost use mathlib.Core.Path.{_≡_};
 ghost use Prim.Native.Nat.{_+_, _*_, _/_, _^_, _≤_, _<_};
-ghost use Rattle.step_survival.specs.Powers.{powerAt};
-ghost use Rattle.step_survival.specs.Survival.{rateNumber, series, survivalNumber};
-ghost use Rattle.step_survival.specs.Survival.{IsSurvival};
+ghost use Rattle.step_survival.specs.Series.{term, series, termCount};
+ghost use Rattle.step_survival.specs.Survival.{rateNumber, parts, survivalAt};
+ghost use Rattle.step_survival.specs.Survival.{survivalNumber, survivalTerms, IsSurvival};
+ghost use Rattle.step_survival.specs.Served.{EveryW};
 use number_units::TenThousandths;
-use powers::FINE_POWERS;
-use powers::HALF_POWERS;
+use step_powers::power;
+
+// 1 and 1/32 in parts of 2^37, in which w and the series are.
+const ONE: u64 = 137_438_953_472;
+
+const STEP: u64 = 4_294_967_296;
 
 // N, from A, B and whether a crop covers the soil.
 pub fn rate_number(crop: bool, a: TenThousandths, b: TenThousandths) -> u64
@@ -18,40 +21,101 @@ pub fn rate_number(crop: bool, a: TenThousandths, b: TenThousandths) -> u64
     if crop { a.0 * b.0 * 6 } else { a.0 * b.0 * 10 }
 }
 
-// e^(-r) in parts of 2^38, for an r below 1/64 in the same parts. A term times r is below 2^64.
-fn small_power(r: u64) -> u64
+// w = N × K / 1,200,000,000,000 in parts of 2^37. N is divided first, so that K's product fits 64
+// bits.
+fn parts(n: u64, k: u64) -> u64
+    requires { ⌜ (n ≤ 8363900000) × (k ≤ 1000) ⌝ }
+    ensures { λ p. ⌜ (p ≡ parts n 1200000000000 k) × (p < 240 * 2 ^ 32) ⌝ }
+{
+    let ratio = n * 2_147_483_648 / 146_484_375;
+    ratio * k / 128
+}
+
+// Term k of the series, from the one before it.
+fn next_term(term: u64, r: u64, k: u64) -> u64
+    requires { ⌜ (term < 2 ^ 32) × (r < 2 ^ 32) × (0 < k) × (k ≤ 5) ⌝ }
+    ensures { λ t. ⌜ t ≡ term * r / (2 ^ 37 * k) ⌝ }
+{
+    term * r / (ONE * k)
+}
+
+// Terms 2 to 5 of the series. Term 0 is 1, term 1 is r, and term 6 is 0.
+struct Terms {
+    second: u64,
+    third: u64,
+    fourth: u64,
+    fifth: u64,
+}
+
+// They, for an r below 1/32.
+fn later_terms(r: u64) -> Terms
+    requires { ⌜ r < 2 ^ 32 ⌝ }
+    ensures { λ t. ⌜ (t .second ≡ term r 2) × (t .third ≡ term r 3) × (t .fourth ≡ term r 4)
+        × (t .fifth ≡ term r 5) ⌝ }
+{
+    let second = next_term(r, r, 2);
+    let third = next_term(second, r, 3);
+    let fourth = next_term(third, r, 4);
+    let fifth = next_term(fourth, r, 5);
+    Terms {
+        second,
+        third,
+        fourth,
+        fifth,
+    }
+}
+
+// e^(-r) in parts of 2^37.
+fn sum_terms(r: u64) -> u64
     requires { ⌜ r < 2 ^ 32 ⌝ }
     ensures { λ y. ⌜ y ≡ series r ⌝ }
 {
-    let second = r * r / 549_755_813_888;
-    let third = second * r / 824_633_720_832;
-    let fourth = third * r / 1_099_511_627_776;
-    let fifth = fourth * r / 1_374_389_534_720;
-    274_877_906_944 + second + fourth - (r + third + fifth)
+    let t = later_terms(r);
+    ONE + t.second + t.fourth - (r + t.third + t.fifth)
 }
 
-// power × y / 2^38 rounded down, by halves of y of 19 bits: the whole product would pass 64 bits.
-fn scaled(power: u64, y: u64) -> u64
-    requires { ⌜ (power < 2 ^ 40) × (y ≤ 2 ^ 38) ⌝ }
-    ensures { λ q. ⌜ q ≡ power * y / 2 ^ 38 ⌝ }
+// How many terms that sums: as many as stand before the first 0.
+fn term_count(r: u64) -> u64
+    requires { ⌜ r < 2 ^ 32 ⌝ }
+    ensures { λ c. ⌜ c ≡ termCount r ⌝ }
 {
-    let high = y / 524_288;
-    let low = y % 524_288;
-    (power * high + power * low / 524_288) / 524_288
-}
-
-// e^(-i/64) in 1024ths of a billionth. At 0, where the slow pools mostly are, the tables are not
-// needed.
-fn power(i: usize) -> u64
-    requires { ⌜ i < 480 ⌝ }
-    ensures { λ p. ⌜ p ≡ powerAt i ⌝ }
-{
-    if i == 0 {
-        return 1_024_000_000_000;
+    let t = later_terms(r);
+    if r == 0 {
+        return 1;
     }
-    let half = HALF_POWERS[i / 32];
-    let fine = FINE_POWERS[i % 32];
-    scaled(half, fine)
+    if t.second == 0 {
+        return 2;
+    }
+    if t.third == 0 {
+        return 3;
+    }
+    if t.fourth == 0 {
+        return 4;
+    }
+    if t.fifth == 0 {
+        return 5;
+    }
+    6
+}
+
+// power × y / 2^39 to the nearest, halves up, for a y that is little less than 2^37. The whole
+// product would pass 64 bits; the power times what y is short of 2^37 does not.
+fn nearest(power: u64, y: u64) -> u64
+    requires { ⌜ (power ≤ 4000000000) × (y ≤ 2 ^ 37) × (2 ^ 37 ≤ y + 2 ^ 32) ⌝ }
+    ensures { λ s. ⌜ s ≡ (power * y + 2 ^ 38) / 2 ^ 39 ⌝ }
+{
+    let short = (power * (ONE - y) + 127) / 128;
+    (power * 1_073_741_824 - short + 2_147_483_648) / 4_294_967_296
+}
+
+// The survival number of w in parts of 2^37, for every w below 7.5.
+fn survival_at(p: u64) -> u64
+    requires { ⌜ p < 240 * 2 ^ 32 ⌝ }
+    ensures { λ s. ⌜ s ≡ survivalAt p ⌝ }
+{
+    let whole = power(p / STEP);
+    let rest = sum_terms(p % STEP);
+    nearest(whole, rest)
 }
 
 // The survival number S, for every N that steps 1 to 3 give and every rate K up to 1000 hundredths
@@ -60,10 +124,24 @@ pub fn survival(n: u64, k: u64) -> u64
     requires { ⌜ (n ≤ 8363900000) × (k ≤ 1000) ⌝ }
     ensures { λ s. ⌜ (s ≡ survivalNumber n k) × IsSurvival n k s ⌝ }
 {
-    let a = 64 * (n * k);
-    let i = a / 1_200_000_000_000;
-    let r = a % 1_200_000_000_000 * 524_288 / 146_484_375;
-    let whole = power(i as usize);
-    let part = small_power(r);
-    (scaled(whole, part) + 512) / 1024
+    survival_at(parts(n, k))
+}
+
+// A survival number, and how many terms were summed for it.
+pub struct Counted {
+    pub survival: u64,
+    pub terms: u64,
+}
+
+// S, as `survival` gives it, with the number of terms: for tests.
+pub fn survival_counted(n: u64, k: u64) -> Counted
+    requires { ⌜ (n ≤ 8363900000) × (k ≤ 1000) ⌝ }
+    ensures survival { λ c. ⌜ (c .survival ≡ survivalNumber n k) × IsSurvival n k (c .survival) ⌝ }
+    ensures terms { λ c. ⌜ (c .terms ≡ survivalTerms n k) × (c .terms ≤ 40) ⌝ }
+    ensures served { λ c. ⌜ EveryW ⌝ }
+{
+    let p = parts(n, k);
+    let s = survival_at(p);
+    let terms = term_count(p % STEP);
+    Counted { survival: s, terms }
 }

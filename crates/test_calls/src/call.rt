@@ -10,6 +10,7 @@ use library_calls::rothc_month;
 use library_calls::rothc_spin_up;
 use library_calls::rothc_start;
 use library_calls::rothc_survival;
+use library_calls::rothc_survival_terms;
 use library_calls::rothc_table;
 use library_calls::rothc_take_back;
 use list_rows::ENTRIES_WIDTH;
@@ -184,6 +185,25 @@ fn survival(text: &[u8], at: usize) -> usize {
     next
 }
 
+// 1 where two numbers are equal, else 0.
+fn same(a: u64, b: u64) -> u64 {
+    if a == b { 1 } else { 0 }
+}
+
+// K: a survival number, whether it is the one of a `D` line's call, and how many terms were summed.
+fn survival_terms(text: &[u8], at: usize) -> usize {
+    let mut numbers = [0u64; 3];
+    let next = line_end(text, read_numbers(text, at, &mut numbers));
+    if next == 0 {
+        return 0;
+    }
+    let mut terms = 7u64;
+    let s = rothc_survival_terms(numbers[0], numbers[1], &mut terms);
+    let own = rothc_survival(numbers[0], numbers[1]);
+    line(&[close(s, numbers[2]), same(s, own), terms], &[], &[]);
+    next
+}
+
 // T: a table.
 fn table(bytes: &[u8], weather: &mut [i64]) {
     let mut rows = 7u64;
@@ -234,6 +254,7 @@ pub fn call(text: &[u8], at: usize) -> usize
         72 => history(text, at + 1),
         76 | 83 => series(text, at + 1, letter),
         68 => survival(text, at + 1),
+        75 => survival_terms(text, at + 1),
         84 => framed_table(text, at + 1),
         _ => 0,
     }

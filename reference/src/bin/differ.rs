@@ -8,6 +8,7 @@ use std::time::Instant;
 
 extern "C" {
     fn rothc_survival(n: u64, pool: u64) -> u64;
+    fn rothc_survival_terms(n: u64, pool: u64, terms: *mut u64) -> u64;
     fn rothc_start(soil: *const u64, soil_len: usize, state: *mut u64, state_len: usize) -> u64;
     fn rothc_month(
         state: *mut u64,
@@ -159,6 +160,10 @@ impl Program for Library {
     fn survival(&mut self, n: u64, pool: u64) -> u64 {
         unsafe { rothc_survival(n, pool) }
     }
+
+    fn survival_terms(&mut self, n: u64, pool: u64, terms: &mut u64) -> u64 {
+        unsafe { rothc_survival_terms(n, pool, terms) }
+    }
 }
 
 /// The example books of the repository, each with its output beside it.
@@ -212,6 +217,7 @@ fn main() -> ExitCode {
         pairs: counts.pairs * times,
         histories: counts.histories * times,
         takings_back: counts.takings_back * times,
+        terms: counts.terms * times,
         ..counts
     };
     let start = Instant::now();
