@@ -69,8 +69,8 @@ static int take_back(kept_field *f) {
   return 0;
 }
 
-// An ordinary e^(-w) with the number of its terms: the plain series in doubles, each term from the one
-// before it, until one is too small to count in a billionth.
+// An ordinary e^(-w) with the number of its terms: the plain series in doubles, each term from the
+// one before it, until one is too small to count in a billionth.
 static double series_counted(double w, unsigned *terms) {
   double term = 1, sum = 0;
   for (*terms = 0; fabs(term) > 1e-10; term *= -w / ++*terms) sum += term;

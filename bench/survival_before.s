@@ -1,11 +1,15 @@
-# uint64_t survival_before(uint64_t n, uint64_t k): the survival number as it was computed before change
-# 2026-03, in the machine code that the kit's compiler made of it then. Kept to be timed beside the
-# code of now (bench/temperatures), and used by nothing else.
+# The survival numbers as they were computed before change 2026-03, in the machine code that the
+# kit's compiler made of them then. Kept to be timed beside the code of now (bench/temperatures), and
+# used by nothing else.
 #
+#     uint64_t rothc_survival_before(uint64_t n, uint64_t pool);
+#
+# is rothc_survival, which makes the four numbers of a month by survival_before and returns one.
 # w = i/64 + r: six terms for e^(-r), and for i above 0 a product of two entries of constant arrays,
 # of 15 and of 32 numbers, which are laid out on the stack here, one by one, in each call.
         .text
-        .globl  survival_before
+
+        .p2align 4
         .type   survival_before, @function
 survival_before:
         movabs  $0xee6b280000,%r9
@@ -174,4 +178,54 @@ survival_before:
         mov     %rcx,%rax
         ret
         .size   survival_before, .-survival_before
+
+        .p2align 4
+        .globl  rothc_survival_before
+        .type   rothc_survival_before, @function
+rothc_survival_before:
+        cmp     $0x4,%rsi
+        setae   %al
+        movabs  $0x1f286fc60,%rcx
+        cmp     %rcx,%rdi
+        seta    %cl
+        or      %al,%cl
+        mov     $0xffffffffffffffff,%rax
+        jne     1f
+        push    %r15
+        push    %r14
+        push    %r13
+        push    %r12
+        push    %rbx
+        sub     $0x20,%rsp
+        mov     %rsi,%rbx
+        mov     $0x3e8,%esi
+        mov     %rdi,%r14
+        call    survival_before
+        mov     %rax,%r15
+        mov     $0x1e,%esi
+        mov     %r14,%rdi
+        call    survival_before
+        mov     %rax,%r12
+        mov     $0x42,%esi
+        mov     %r14,%rdi
+        call    survival_before
+        mov     %rax,%r13
+        mov     $0x2,%esi
+        mov     %r14,%rdi
+        call    survival_before
+        mov     %r15,(%rsp)
+        mov     %r12,0x8(%rsp)
+        mov     %r13,0x10(%rsp)
+        mov     %rax,0x18(%rsp)
+        mov     (%rsp,%rbx,8),%rax
+        add     $0x20,%rsp
+        pop     %rbx
+        pop     %r12
+        pop     %r13
+        pop     %r14
+        pop     %r15
+1:
+        ret
+        .size   rothc_survival_before, .-rothc_survival_before
+
         .section .note.GNU-stack, "", @progbits

@@ -1,8 +1,8 @@
-// The four survival numbers of a month at each of the 551 temperatures from -5.0 to 50.0 degrees, on
-// bare soil and under a crop, soil moist: before change 2026-03, now, and four calls of exp, in
+// The four survival numbers of a month at each of the 551 temperatures from -5.0 to 50.0 degrees,
+// on bare soil and under a crop, soil moist: before change 2026-03, now, and four calls of exp, in
 // alternation in one run. bench/temperatures builds and runs it.
 //
-//     bench-temperatures PICTURE    writes a table to standard output, and the curves to PICTURE (SVG)
+//     bench-temperatures PICTURE    a table to standard output, the curves to PICTURE (SVG)
 #include <math.h>
 #include <stdint.h>
 #include <stdio.h>
@@ -11,7 +11,7 @@
 
 #include "rothc.h"
 
-uint64_t survival_before(uint64_t n, uint64_t k); // bench/survival_before.s
+uint64_t rothc_survival_before(uint64_t n, uint64_t pool);  // bench/survival_before.s
 
 enum { LOWEST = -50, TEMPERATURES = 551, COVERS = 2, SIDES = 3, RUNS = 31, CALLS = 2000 };
 enum { BEFORE, NOW, EXP };
@@ -19,12 +19,6 @@ static const char *const side_names[SIDES] = {"before", "now", "four exp"};
 static const char *const cover_names[COVERS] = {"bare", "crop"};
 
 // ---- the three sides: each makes the four numbers of a rate number and gives one of them
-
-static __attribute__((noinline)) uint64_t four_before(uint64_t n, uint64_t pool) {
-  if (pool > 3 || n > 8363900000ull) return ROTHC_NO_SURVIVAL;
-  volatile uint64_t four[4] = {survival_before(n, 1000), survival_before(n, 30), survival_before(n, 66), survival_before(n, 2)};
-  return four[pool];
-}
 
 static __attribute__((noinline)) double four_exp(uint64_t n) {
   double w = (double)n / 1.2e12;
@@ -45,7 +39,7 @@ static double timed(int side) {
   double start = now(), some = 0;
   uint64_t sum = 0;
   for (int i = 0; i < CALLS; i++) {
-    if (side == BEFORE) sum += four_before(rate, 1);
+    if (side == BEFORE) sum += rothc_survival_before(rate, 1);
     if (side == NOW) sum += rothc_survival(rate, 1);
     if (side == EXP) some += four_exp(rate);
   }
@@ -92,13 +86,13 @@ static void time_all(void) {
 
 // Before and now differ by at most 2, as two numbers that are at most 1 from one value do.
 static void compare(void) {
-  static const uint64_t rates[4] = {1000, 30, 66, 2};
   for (int place = 0; place < TEMPERATURES; place++)
     for (int cover = 0; cover < COVERS; cover++)
       for (uint64_t pool = 0; pool < 4; pool++) {
         uint64_t n = rate_number(place, cover), terms = 0;
-        int64_t apart = (int64_t)survival_before(n, rates[pool]) - (int64_t)rothc_survival(n, pool);
-        if (apart < -2 || apart > 2 || rothc_survival_terms(n, pool, &terms) != rothc_survival(n, pool) || terms > 40)
+        int64_t apart = (int64_t)(rothc_survival_before(n, pool) - rothc_survival(n, pool));
+        if (apart < -2 || apart > 2 ||
+            rothc_survival_terms(n, pool, &terms) != rothc_survival(n, pool) || terms > 40)
           fprintf(stderr, "a survival number differs\n"), exit(2);
       }
 }
@@ -118,7 +112,8 @@ static void print_rows(int cover) {
     const double *t = times[place][cover];
     printf("| %s | %d |", cover_names[cover], (LOWEST + place) / 10);
     print_terms(place, cover);
-    printf(" | %.1f | %.1f | %.1f | %.2f | %.2f | %.2f |\n", t[BEFORE], t[NOW], t[EXP], t[BEFORE] / t[EXP], t[NOW] / t[EXP], t[NOW] / t[BEFORE]);
+    printf(" | %.1f | %.1f | %.1f | %.2f | %.2f | %.2f |\n", t[BEFORE], t[NOW], t[EXP],
+           t[BEFORE] / t[EXP], t[NOW] / t[EXP], t[NOW] / t[BEFORE]);
   }
 }
 
@@ -132,15 +127,18 @@ static void print_spread(const char *what, int above, int below) {
   int count = TEMPERATURES * COVERS;
   for (int i = 0; i < count; i++) all[i] = quotient(i, above, below);
   qsort(all, count, sizeof *all, by_size);
-  printf("- %s: median %.2f, least %.2f, most %.2f\n", what, all[count / 2], all[0], all[count - 1]);
+  printf("- %s: median %.2f, least %.2f, most %.2f\n", what, all[count / 2], all[0],
+         all[count - 1]);
 }
 
 static void print_table(void) {
   int slower = 0;
-  printf("| soil | °C | terms (DPM RPM BIO HUM) | before, ns | now, ns | four `exp`, ns | before / `exp` | now / `exp` | now / before |\n");
+  printf(
+      "| soil | °C | terms (DPM RPM BIO HUM) | before, ns | now, ns | four `exp`, ns | before / "
+      "`exp` | now / `exp` | now / before |\n");
   printf("|---|---|---|---|---|---|---|---|---|\n");
   for (int cover = 0; cover < COVERS; cover++) print_rows(cover);
-  printf("\nOver all %d months, as ratios:\n\n", TEMPERATURES * COVERS);
+  printf("\nOver all of these months, 551 temperatures bare and under a crop, as ratios:\n\n");
   print_spread("before to four `exp`", BEFORE, EXP);
   print_spread("now to four `exp`", NOW, EXP);
   print_spread("now to before", NOW, BEFORE);
@@ -153,8 +151,12 @@ static void print_table(void) {
 
 enum { WIDTH = 900, HEIGHT = 480, LEFT = 60, RIGHT = 170, TOP = 40, BOTTOM = 50 };
 
-static double x_of(int place) { return LEFT + (double)(WIDTH - LEFT - RIGHT) * place / (TEMPERATURES - 1); }
-static double y_of(double ns, double most) { return HEIGHT - BOTTOM - (HEIGHT - TOP - BOTTOM) * ns / most; }
+static double x_of(int place) {
+  return LEFT + (double)(WIDTH - LEFT - RIGHT) * place / (TEMPERATURES - 1);
+}
+static double y_of(double ns, double most) {
+  return HEIGHT - BOTTOM - (HEIGHT - TOP - BOTTOM) * ns / most;
+}
 
 static double highest(void) {
   double most = 0;
@@ -184,11 +186,14 @@ static void draw_axes(FILE *f, double most) {
 
 static void draw_curve(FILE *f, int cover, int side, double most) {
   static const char *const colours[SIDES] = {"#b03a2e", "#1f6f43", "#5d6d7e"};
-  fprintf(f, "<polyline fill=\"none\" stroke=\"%s\" stroke-width=\"1.5\"%s points=\"", colours[side], cover ? " stroke-dasharray=\"5 3\"" : "");
-  for (int place = 0; place < TEMPERATURES; place++) fprintf(f, "%.1f,%.1f ", x_of(place), y_of(times[place][cover][side], most));
+  fprintf(f, "<polyline fill=\"none\" stroke=\"%s\" stroke-width=\"1.5\"%s points=\"",
+          colours[side], cover ? " stroke-dasharray=\"5 3\"" : "");
+  for (int place = 0; place < TEMPERATURES; place++)
+    fprintf(f, "%.1f,%.1f ", x_of(place), y_of(times[place][cover][side], most));
   fprintf(f, "\"/>\n");
   double y = TOP + 24 * (COVERS * side + cover);
-  fprintf(f, "<path d=\"M%d %.0fh30\" stroke=\"%s\" stroke-width=\"2\"%s/>\n", WIDTH - RIGHT + 15, y, colours[side], cover ? " stroke-dasharray=\"5 3\"" : "");
+  fprintf(f, "<path d=\"M%d %.0fh30\" stroke=\"%s\" stroke-width=\"2\"%s/>\n", WIDTH - RIGHT + 15,
+          y, colours[side], cover ? " stroke-dasharray=\"5 3\"" : "");
   char text[32];
   snprintf(text, sizeof text, "%s, %s", side_names[side], cover_names[cover]);
   draw_text(f, WIDTH - RIGHT + 52, y + 4, "start", text);
@@ -198,7 +203,10 @@ static void draw(const char *path) {
   FILE *f = fopen(path, "w");
   double most = highest();
   if (!f) perror(path), exit(2);
-  fprintf(f, "<svg xmlns=\"http://www.w3.org/2000/svg\" viewBox=\"0 0 %d %d\" font-family=\"sans-serif\" font-size=\"13\">\n", WIDTH, HEIGHT);
+  fprintf(f,
+          "<svg xmlns=\"http://www.w3.org/2000/svg\" viewBox=\"0 0 %d %d\" "
+          "font-family=\"sans-serif\" font-size=\"13\">\n",
+          WIDTH, HEIGHT);
   fprintf(f, "<rect width=\"%d\" height=\"%d\" fill=\"#fff\"/>\n", WIDTH, HEIGHT);
   draw_axes(f, most);
   for (int side = 0; side < SIDES; side++)

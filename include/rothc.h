@@ -162,9 +162,9 @@ uint64_t rothc_survival(uint64_t n, uint64_t pool);
  * tests (change 2026-03). At most 40 are allowed, and 6 is the most that there are.
  * How they are counted: n x 2^44 / 1,200,000,000,000 is rounded down, multiplied by the pool's rate
  * in hundredths a year (1000, 30, 66, 2), divided by 2^7 and rounded down again; r is the remainder
- * of that by 2^32. r / 2^37 is what the series 1 - x + x^2/2 - .. is summed for: its term 0 is 2^37,
- * and each term after it is the one before it, times r, over 2^37 and over its number 1, 2, 3, ..,
- * rounded down. Summed are the terms before the first that is 0.
+ * of that by 2^32. r / 2^37 is what the series 1 - x + x^2/2 - .. is summed for: its term 0 is
+ * 2^37, and each term after it is the one before it, times r, over 2^37 and over its number 1, 2,
+ * 3, .., rounded down. Summed are the terms before the first that is 0.
  * Returns ROTHC_NO_SURVIVAL where rothc_survival does, and then leaves terms as it was.
  * terms: one number. */
 uint64_t rothc_survival_terms(uint64_t n, uint64_t pool, uint64_t *terms);

@@ -21,7 +21,7 @@ MONTHS = [
     ("July, under a crop", "16.0", CROP),
     ("a hot July, under a crop", "24.5", CROP),
     ("the same, bare", "24.5", BARE),
-    ("the hottest that is taken", "50.0", BARE),
+    ("the hottest that is taken, bare", "50.0", BARE),
 ]
 NO_SURVIVAL = 2**64 - 1
 

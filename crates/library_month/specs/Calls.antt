@@ -1,6 +1,6 @@
--- What rothc_start and rothc_month return and leave in lent memory. Memory that a
--- call is lent to read stays as it was. A state is lent as a field: the current one, and after it
--- the memory of the kept ones.
+-- What rothc_start and rothc_month return and leave in lent memory. Memory that a call is lent to
+-- read stays as it was. A state is lent as a field: the current one, and after it the memory of the
+-- kept ones.
 use mathlib.Core.Bool.{Bool, cond, _&&_}
 use mathlib.Core.List.{List}
 use Prim.Native.Nat.{ℕ}

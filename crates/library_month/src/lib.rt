@@ -1,6 +1,6 @@
-// The bodies of rothc_start and rothc_month: numbers and slices of numbers in lent memory. Each call
-// returns the papers' refusal number, 0 where nothing is refused, and 100 where memory of a fixed
-// layout has another length.
+// The bodies of rothc_start and rothc_month: numbers and slices of numbers in lent memory. Each
+// call returns the papers' refusal number, 0 where nothing is refused, and 100 where memory of a
+// fixed layout has another length.
 ghost use mathlib.Core.Path.{_≡_};
 ghost use Rattle.library_month.specs.Calls.{rothcStart, rothcMonth};
 use kept_demand3::call;

@@ -18,6 +18,7 @@ noSurvival = 18446744073709551615
 unfoldable pub rothcSurvival : ℕ → ℕ → ℕ
 rothcSurvival n pool = cond (hasSurvival n pool) (getD (survivals n) pool 0) noSurvival
 
+-- What rothc_survival_terms returns, and the lent number after it.
 pub record TermsLeft : Type 0 where
   pub survival : ℕ
   pub terms : ℕ

@@ -1,5 +1,5 @@
-// The bodies of rothc_survival and rothc_survival_terms: step 4's survival number of a pool at a rate
-// number.
+// The bodies of rothc_survival and rothc_survival_terms: step 4's survival number of a pool at a
+// rate number.
 ghost use mathlib.Core.Bool.{true};
 ghost use mathlib.Core.Path.{_≡_};
 ghost use Prim.Native.Nat.{_≤_};

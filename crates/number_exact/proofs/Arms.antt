@@ -1,5 +1,5 @@
--- A table that the code has as the arms of a `match` on 0, 1, 2, .. and the rest: what each arm knows, and that a number or a
--- row that passes a computed test against the definition's list is that list's. Assumes nothing.
+-- A table that the code has as the arms of a `match` on 0, 1, 2, .. and the rest: what each arm knows, and that a number which
+-- passes a computed test against the definition's list is that list's. Assumes nothing.
 use mathlib.Core.Path.{_≡_, sym, _∙_, ap}
 use mathlib.Core.List.{List}
 use mathlib.Core.Logic.{_⊎_, ⊎-elim}

@@ -1,14 +1,13 @@
 -- Tests that are computed on numerals and carried to facts: of bounds on e^(-w) by one sum each, and of every entry of a table.
 -- Assumes nothing.
-use mathlib.Core.Path.{_≡_, refl, sym, _∙_, subst}
+use mathlib.Core.Path.{_≡_, sym, _∙_, subst}
 use mathlib.Core.Bool.{Bool, true, false, _&&_}
 use mathlib.Core.List.{List, [], _∷_}
-use mathlib.Core.Logic.{⊎-elim}
 use Prim.Native.Nat.{ℕ, zero, suc, _+_, _-_, _*_, _≤_, _<_}
-use native.Mathlib.Nat.{add-zero, zero-add, add-suc, suc-add, le-of-suc-le-suc, not-suc-le-zero, eq-or-lt-of-le}
+use native.Mathlib.Nat.{add-zero, zero-add, add-suc, suc-add, le-of-suc-le-suc, not-suc-le-zero}
 use lib.Dec.{T, leb, leb→le}
 use lib.ListN.{length, getD}
-use Rattle.number_exact.specs.Exponential.{agreeing, opposing, denominator, endsOnPlus, AtOrBelow, AtOrAbove, AtMostFrom}
+use Rattle.number_exact.specs.Exponential.{agreeing, opposing, denominator, endsOnPlus, AtOrBelow, AtOrAbove}
 use Rattle.number_exact.proofs.Laws.{below-by-sum, above-by-sum}
 
 -- x / y is at or below the sum to term l, which ends on a minus term
@@ -60,15 +59,3 @@ atMost top i x = leb x top
 
 pub entry-most : (top : ℕ) (xs : List ℕ) → T (allPass (atMost top) 0 xs) → (k : ℕ) → k < length xs → getD xs k 0 ≤ top
 entry-most top xs t k h = leb→le (getD xs k 0) top (entry (atMost top) xs t k h)
-
--- each number below n passes a test
-abbrev pub allBelow : (ℕ → Bool) → ℕ → Bool
-allBelow test zero = true
-allBelow test (suc n) = test n && allBelow test n
-
--- a test that all numbers below n pass, at one of them
-pub below : (test : ℕ → Bool) (n : ℕ) → T (allBelow test n) → (k : ℕ) → k < n → T (test k)
-below test zero t k h = absurd (not-suc-le-zero h)
-below test (suc n) t k h =
-    ⊎-elim (λ e. subst (λ m. T (test m)) (sym e) (and-left (test n) (allBelow test n) t))
-    (λ lt. below test n (and-right (test n) (allBelow test n) t) k lt) (eq-or-lt-of-le (le-of-suc-le-suc h))

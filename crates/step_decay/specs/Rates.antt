@@ -4,11 +4,14 @@ use mathlib.Core.List.{List, [], _∷_}
 use Prim.Native.Nat.{ℕ}
 use Rattle.step_survival.specs.Survival.{survivalNumber, survivalTerms}
 
--- S of the four pools at the rate number n, their rates K being 1000, 30, 66 and 2 hundredths a
--- year (DPM, RPM, BIO, HUM).
+-- A number of each rate K, in hundredths a year: 1000, 30, 66 and 2 (DPM, RPM, BIO, HUM).
+abbrev pub atRates : (ℕ → ℕ) → List ℕ
+atRates f = f 1000 ∷ f 30 ∷ f 66 ∷ f 2 ∷ []
+
+-- S of the four pools at the rate number n.
 unfoldable pub survivals : ℕ → List ℕ
-survivals n = survivalNumber n 1000 ∷ survivalNumber n 30 ∷ survivalNumber n 66 ∷ survivalNumber n 2 ∷ []
+survivals n = atRates (survivalNumber n)
 
 -- How many terms are summed for each of the four (change 2026-03).
 unfoldable pub termCounts : ℕ → List ℕ
-termCounts n = survivalTerms n 1000 ∷ survivalTerms n 30 ∷ survivalTerms n 66 ∷ survivalTerms n 2 ∷ []
+termCounts n = atRates (survivalTerms n)

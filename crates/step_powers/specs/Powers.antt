@@ -3,7 +3,7 @@ use mathlib.Core.List.{List, [], _∷_}
 use Prim.Native.Nat.{ℕ}
 use lib.ListN.{getD}
 
--- At place i 4,000,000,000 × e^(-i/32), rounded: in quarters of a billionth.
+-- Place i is at most 1 from 4,000,000,000 × e^(-i/32): in quarters of a billionth.
 unfoldable pub powers : List ℕ
 powers =
     4000000000 ∷ 3876932938 ∷ 3757652251 ∷ 3642041446 ∷ 3529987610 ∷ 3421381309 ∷ 3316116473 ∷

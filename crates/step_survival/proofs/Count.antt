@@ -16,7 +16,7 @@ unfolding termsFrom
 none-more zero r k e = refl
 none-more (suc most) r k e = rw (eq-eqb (term r k) 0 e)
 
-pub one-more : (most r k : ℕ) → (term r k ≡ 0 → ⊥) → length (termsFrom (suc most) r k) ≡ suc (length (termsFrom most r (suc k)))
+one-more : (most r k : ℕ) → (term r k ≡ 0 → ⊥) → length (termsFrom (suc most) r k) ≡ suc (length (termsFrom most r (suc k)))
 unfolding termsFrom
 one-more most r k some = rw (ne-eqb (term r k) 0 some)
 

@@ -16,14 +16,14 @@ use Rattle.step_survival.specs.Series.{term, summedTerms, series, termCo
 use Rattle.step_survival.specs.Survival.{ratio, parts, survivalAt, termsAt, survivalOf, termsOf, survivalNumber, IsSurvival}
 use Rattle.step_survival.specs.Served.{Served, EveryW}
 use Rattle.step_survival.proofs.Count.{at-most, next-zero}
-use Rattle.step_survival.proofs.Series.{seventh, six, series-most, series-least, series-below, series-above}
+use Rattle.step_survival.proofs.Series.{sixth-zero, six, series-most, series-least, series-below, series-above}
 
 -- ---- how many terms
 
 module _ (r : ℕ) (small : r < 2 ^ 32) where
   pub at-most-six : termCount r ≤ 6
   unfolding termCount summedTerms
-  at-most-six = at-most 40 r 0 6 (seventh r small)
+  at-most-six = at-most 40 r 0 6 (sixth-zero r small)
 
   next-is-zero : term r (termCount r) ≡ 0
   unfolding termCount summedTerms
@@ -166,7 +166,7 @@ module _ (a b k : ℕ) (pos : 0 < b) (rate : k ≤ 1000) (fits : 2 * (a * k) < 1
   pub in-range : survivalOf a b k ≤ 1000000000
   in-range = omega (arith, rounded, mul-le-mul entry-most tail-most)
 
-  pub served : Served a b k
+  served : Served a b k
   unfolding termsOf termsAt p
   served =
       record {

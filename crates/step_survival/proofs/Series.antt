@@ -1,5 +1,5 @@
--- The series: its terms are at most 2 below the exact ones, the seventh is 0, and e^(-r) is at most 8 from the sum of the
--- others, in parts of 2^37. Assumes nothing.
+-- The series: its terms are at most 2 below the exact ones, term 6 is 0, and e^(-r) is at most 8 from the sum of those before
+-- it, in parts of 2^37. Assumes nothing.
 use mathlib.Core.Path.{_≡_, refl, ap}
 use mathlib.Core.Bool.{cond}
 use mathlib.Core.List.{List, [], _∷_}
@@ -20,13 +20,14 @@ quotient x d pos = (div-mul-le-self x d, lt-div-mul-add pos)
 -- ---- each term beside the one before it
 
 -- a term is at most a 32 × (k + 1)th of the one before it
-pub term-falls : (r k : ℕ) → r < 2 ^ 32 → 32 * suc k * term r (suc k) ≤ term r k
+term-falls : (r k : ℕ) → r < 2 ^ 32 → 32 * suc k * term r (suc k) ≤ term r k
 unfolding term
 term-falls r k small =
     le-of-mul-le-mul-left {k = 2 ^ 32}
     (omega (arith, quotient (term r k * r) (2 ^ 37 * suc k) (omega arith) .0, mul-le-mul-left (term r k) small)) (lit< tt)
 
--- z is the scale, t the term and n / d the exact one; e is the next term, of which c is the index: e × z × c ≤ t × r < (e + 1) × z × c
+-- z is the scale, t the term and n / d the exact one; e is the next term, and c its index:
+-- e × z × c ≤ t × r < (e + 1) × z × c
 low-step :
     (z r t d n e c : ℕ) → t * d ≤ z * n → e * (z * c) ≤ t * r → e * (d * (z * c)) ≤ z * (n * r)
 low-step z r t d n e c before quot = omega (arith, mul-le-mul-left d quot, mul-le-mul-left r before)
@@ -58,7 +59,7 @@ module _ (r : ℕ) where
       (high-step (2 ^ 37) r (term r k) (denominator (2 ^ 37) k) (r ^ k) (term r (suc k)) (suc k) (term-high small k)
       (quotient (term r k * r) (2 ^ 37 * suc k) (omega arith) .1) (omega arith) (omega arith))
 
--- the numbers of a list added by sign, as the sums of e^(-w) are: those of the last one's sign, and the others
+-- the numbers f 0, f 1, .. added by sign, as the sums of e^(-w) are: those of the last one's sign, and the others
 mutual
   agreeingOf : (ℕ → ℕ) → ℕ → ℕ
   agreeingOf f zero = f zero
@@ -115,14 +116,14 @@ unfolding term
 start r = refl
 
 module _ (r : ℕ) (small : r < 2 ^ 32) where
-  -- each term is far below the one before it, and the seventh is 0
+  -- each term is far below the one before it, and term 6 is 0
   pub falling :
       (32 * term r 1 ≤ term r 0) × (64 * term r 2 ≤ term r 1) × (96 * term r 3 ≤ term r 2) × (128 * term r 4 ≤ term r 3)
       × (160 * term r 5 ≤ term r 4)
   falling = (term-falls r 0 small, term-falls r 1 small, term-falls r 2 small, term-falls r 3 small, term-falls r 4 small)
 
-  pub seventh : term r 6 ≡ 0
-  seventh = omega (arith, falling, start r, term-falls r 5 small)
+  pub sixth-zero : term r 6 ≡ 0
+  sixth-zero = omega (arith, falling, start r, term-falls r 5 small)
 
   -- of the sum's terms the first six are left
   pub six : series r ≡ term r 0 - (term r 1 - (term r 2 - (term r 3 - (term r 4 - term r 5))))
@@ -135,7 +136,7 @@ module _ (r : ℕ) (small : r < 2 ^ 32) where
         unrolled 36 r 3,
         unrolled 35 r 4,
         unrolled 34 r 5,
-        none-more 34 r 6 seventh,
+        none-more 34 r 6 sixth-zero,
         sub-zero (term r 5),
       )
 
@@ -160,4 +161,4 @@ module _ (r : ℕ) (small : r < 2 ^ 32) where
   series-above =
       above-by-sum (series r + 8) (2 ^ 37) r (2 ^ 37) 6 (lit< tt) refl
       (sum-above (2 ^ 37) r (2 ^ 37) (term r) (λ k. term r k + 2) (term-low r) (term-high r small) (series r + 8) 6
-      (omega (arith, falling, series-sum, start r, seventh)))
+      (omega (arith, falling, series-sum, start r, sixth-zero)))

@@ -1,5 +1,5 @@
--- The series e^(-r) = 1 - r + r²/2 - r³/6 + .., for an r below 1/32: its terms in parts of 2^37, and
--- how many of them are summed. r is in the same parts.
+-- The series e^(-r) = 1 - r + r²/2 - r³/6 + .. for an r below 1/32: its terms in parts of 2^37, as
+-- r is, and how many of them are summed.
 use mathlib.Core.Bool.{cond}
 use mathlib.Core.List.{List, [], _∷_}
 use Prim.Native.Nat.{ℕ, zero, suc, _-_, _*_, _/_, _^_}

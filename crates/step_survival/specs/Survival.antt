@@ -1,5 +1,5 @@
--- Step 4 of document 01: the rate number N, and how the program finds the survival number of w = a
--- × k / b.
+-- Step 4 of document 01: the rate number N, and how the program finds the survival number of
+-- w = a × k / b.
 use mathlib.Core.Bool.{Bool, true, false}
 use mathlib.Core.Path.{_≡_}
 use Prim.Native.Nat.{ℕ, _+_, _*_, _/_, _%_, _^_, _≤_}

@@ -21,8 +21,8 @@ pub fn rate_number(crop: bool, a: TenThousandths, b: TenThousandths) -> u64
     if crop { a.0 * b.0 * 6 } else { a.0 * b.0 * 10 }
 }
 
-// w = N × K / 1,200,000,000,000 in parts of 2^37. N is divided first, so that K's product fits 64
-// bits.
+// w = N × K / 1,200,000,000,000 in parts of 2^37. N is divided first, in parts of 2^44, so that K's
+// product fits 64 bits. 1,200,000,000,000 is 2^13 × 146,484,375, and N × 2^31 fits too.
 fn parts(n: u64, k: u64) -> u64
     requires { ⌜ (n ≤ 8363900000) × (k ≤ 1000) ⌝ }
     ensures { λ p. ⌜ (p ≡ parts n 1200000000000 k) × (p < 240 * 2 ^ 32) ⌝ }
@@ -47,7 +47,7 @@ struct Terms {
     fifth: u64,
 }
 
-// They, for an r below 1/32.
+// Terms 2 to 5, for an r below 1/32.
 fn later_terms(r: u64) -> Terms
     requires { ⌜ r < 2 ^ 32 ⌝ }
     ensures { λ t. ⌜ (t .second ≡ term r 2) × (t .third ≡ term r 3) × (t .fourth ≡ term r 4)

@@ -1,14 +1,13 @@
 -- `step_decay::pool_counted` meets its contract: the rate at a pool's index is the one that its survival number and its count
 -- are of. Assumes nothing.
 use mathlib.Core.Path.{_≡_, refl, _∙_}
-use mathlib.Core.List.{[], _∷_}
 use Prim.Native.Nat.{ℕ, zero, suc, _≤_, _<_}
 use native.Mathlib.Omega.{arith}
 use borrow.Author.Needs.{needs}
 use lib.Dec.{lit≤}
 use lib.ListN.{getD}
 use Rattle.step_survival.specs.Survival.{survivalNumber, survivalTerms}
-use Rattle.step_decay.specs.Rates.{survivals, termCounts}
+use Rattle.step_decay.specs.Rates.{atRates, survivals, termCounts}
 use Rattle.step_decay.proofs.pool_counted.Statement.{statement}
 use Rattle.step_decay.proofs.pool_counted.Tie as tie
 
@@ -21,14 +20,14 @@ by-pool P dpm rpm bio hum (suc (suc (suc zero))) h = hum
 by-pool P dpm rpm bio hum (suc (suc (suc (suc pool)))) h = absurd (omega (arith, h))
 
 abbrev rate : ℕ → ℕ
-rate pool = getD (1000 ∷ 30 ∷ 66 ∷ 2 ∷ []) pool 0
+rate pool = getD (atRates (λ k. k)) pool 0
 
 rate-most : (pool : ℕ) → pool < 4 → rate pool ≤ 1000
 rate-most = by-pool (λ pool. rate pool ≤ 1000) (lit≤ tt) (lit≤ tt) (lit≤ tt) (lit≤ tt)
 
 -- a number of each rate, at the pool's index
-at-pool : (f : ℕ → ℕ) (pool : ℕ) → pool < 4 → f (rate pool) ≡ getD (f 1000 ∷ f 30 ∷ f 66 ∷ f 2 ∷ []) pool 0
-at-pool f = by-pool (λ pool. f (rate pool) ≡ getD (f 1000 ∷ f 30 ∷ f 66 ∷ f 2 ∷ []) pool 0) refl refl refl refl
+at-pool : (f : ℕ → ℕ) (pool : ℕ) → pool < 4 → f (rate pool) ≡ getD (atRates f) pool 0
+at-pool f = by-pool (λ pool. f (rate pool) ≡ getD (atRates f) pool 0) refl refl refl refl
 
 mul-survival-counted : tie.Need-mul-survival-counted
 mul-survival-counted c = search needs

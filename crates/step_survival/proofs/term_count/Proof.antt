@@ -4,7 +4,7 @@ use mathlib.Core.Path.{sym, _∙_}
 use native.Mathlib.Omega.{arith}
 use lib.Dec.{lit<}
 use Rattle.step_survival.proofs.Count.{ends-at}
-use Rattle.step_survival.proofs.Series.{start, seventh}
+use Rattle.step_survival.proofs.Series.{start, sixth-zero}
 use Rattle.step_survival.proofs.Steps.{first}
 use Rattle.step_survival.proofs.term_count.Statement.{statement}
 use Rattle.step_survival.proofs.term_count.Tie as tie
@@ -45,7 +45,7 @@ returns-6 : tie.Need-returns-6
 returns-6 c =
     let t = c .before .before .before .before .before .before .before .before .before in
     let r = t .before .args .r in
-    sym (ends-at r 5 (lit< tt) (λ z. c .if5 .left (t .later-terms .ensures .3 ∙ z)) (seventh r (t .before .pre)))
+    sym (ends-at r 5 (lit< tt) (λ z. c .if5 .left (t .later-terms .ensures .3 ∙ z)) (sixth-zero r (t .before .pre)))
 
 pub term-count-spec : {M : Type 1} → statement M
 term-count-spec =
