@@ -6,7 +6,7 @@ use Prim.Native.Nat.{ℕ, zero, suc, _-_, _*_, _/_, _^_}
 use lib.Dec.{eqb}
 use lib.ListN.{length}
 
--- Term k, r^k / k!, rounded down: each comes from the one before it (change 2026-03).
+-- Term k, r^k / k!: each comes from the one before it, rounded down (change 2026-03).
 unfoldable pub term : ℕ → ℕ → ℕ
 term r zero = 2 ^ 37
 term r (suc k) = term r k * r / (2 ^ 37 * suc k)
