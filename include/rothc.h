@@ -11,6 +11,8 @@
  * depth in whole centimetres. The soil moisture deficit is in parts, 2,070,000 to the millimetre.
  * Evaporation is an open pan's, of which 0.75 counts, or potential evapotranspiration, of which all
  * does: the number after it says which.
+ * Radiocarbon (docs/RADIOCARBON.md). Modern grams are grams of carbon times their activity, which
+ * is counted in thousandths: fresh carbon of activity 1000 has as many modern grams as grams.
  *
  * Memory. The caller lends all memory, as a pointer and a length counted in elements (not in
  * bytes); the library keeps, allocates and shares nothing between calls, so that calls on different
@@ -20,9 +22,9 @@
  * same call is lent. This the caller has to see to: everything else is checked, and refused with a
  * number, except the kept states (see "A state").
  *
- * Answers. Each call but rothc_survival and rothc_survival_terms returns 0 where it did what it was
- * asked, one of the refusals below where it did not, or ROTHC_SHAPE where memory of a fixed layout
- * (soil, state, entries, row, result) has another length. What a refused call leaves in the memory
+ * Answers. Each call that isn't for a survival number returns 0 where it did what it was asked, one
+ * of the refusals below where it did not, or ROTHC_SHAPE where memory of a fixed layout (soil,
+ * state, entries, row, result, report) has another length. What a refused call leaves in the memory
  * is said at each function. With ROTHC_SHAPE it leaves everything as it was.
  */
 #ifndef ROTHC_H
@@ -44,7 +46,7 @@ enum {
   ROTHC_BOOK_LENGTH = 1,   /* the book is longer than 65,536 bytes */
   ROTHC_LINE = 2,          /* a line of the book is missing or isn't of its form */
   ROTHC_ROWS = 3,          /* SOIL's count isn't 1, another count or a number of rows is outside
-                              1 to 1,200, or a list isn't four numbers a weather row and three a
+                              1 to 1,200, or a list isn't four numbers a weather row and four a
                               land row (spin-up: twelve rows); a table has no lines or more than
                               1,200 */
   ROTHC_CLAY = 4,          /* clay is outside 0 to 1000 */
@@ -54,8 +56,10 @@ enum {
   ROTHC_ROOM = 8,          /* the output is too short */
   ROTHC_YEARS = 9,         /* spin-up years are outside 1 to 10,000 */
   ROTHC_STATE_BOUNDS = 10, /* a state's deficit is above its soil's largest, it has more than
-                              120,000 months, its kept count is above 24, or CO2 and active pools
-                              together are above 1,000,000,000 + 200,000,000 x months */
+                              120,000 months, its kept count is above 24, CO2 and active pools
+                              together are above 1,000,000,000 + 200,000,000 x months, or the
+                              modern grams of the active pools together are above
+                              1,000,000,000 + 400,000,000 x months */
   ROTHC_TURN = 11,         /* the month's number isn't months done plus 1 */
   ROTHC_MONTH_LIMIT = 12,  /* 120,000 months are done */
   ROTHC_TEMPERATURE = 13,  /* temperature is outside -400 to 500 */
@@ -68,38 +72,44 @@ enum {
                               number */
   ROTHC_SOURCE = 19,       /* the evaporation's source is neither 0 nor 1; asked after 14 */
   ROTHC_NONE_KEPT = 20,    /* no kept month is left to take back */
-  ROTHC_SHAPE = 100        /* memory of a fixed layout has another length */
+  ROTHC_ACTIVITY = 21,     /* the additions' activity is outside 0 to 2,000; asked after 16 */
+  ROTHC_NO_CARBON = 22,    /* a radiocarbon report on a pool, or on all five, without carbon */
+  ROTHC_SHAPE = 100        /* memory of a fixed layout has another length; or, of
+                              rothc_radiocarbon, the pool is none of the six that can be asked */
 };
 
 /* The layouts: how many numbers each has, and the index of each number. */
 enum {
   ROTHC_SOIL = 8,
-  ROTHC_KEPT_STATE = 11, /* a state as it is kept */
+  ROTHC_KEPT_STATE = 15, /* a state as it is kept */
   ROTHC_KEPT_LIMIT = 24, /* the most that are kept */
-  ROTHC_STATE = 276,     /* the current state's 11, the kept count, and 24 places of 11 */
+  ROTHC_STATE = 376,     /* the current state's 15, the kept count, and 24 places of 15 */
   ROTHC_WEATHER = 4,     /* a weather row */
-  ROTHC_LAND = 3,        /* a land row */
-  ROTHC_ENTRIES = 7,     /* a month's: a weather row and a land row */
+  ROTHC_LAND = 4,        /* a land row */
+  ROTHC_ENTRIES = 8,     /* a month's: a weather row and a land row */
   ROTHC_ROW = 7,
-  ROTHC_RESULT = 2
+  ROTHC_RESULT = 2,
+  ROTHC_REPORT = 3
 };
 
 /* A soil, 8 x uint64_t.
  *
- * A state, 276 x uint64_t. Index 0 to 10 is the current state: a soil and three numbers more. Index
- * 11 is the kept count: how many months can be taken back, 0 to 24. From index 12 on there are 24
- * places for the states before the latest months: place p, counted from 0, begins at
- * ROTHC_STATE_PLACES + ROTHC_KEPT_STATE * p and holds what index 0 to 10 held in the state that is
- * kept there. The state with m months done is kept at place m mod 24, so that the 25th goes where
- * the oldest was. Kept are the states with 1, 2, 3 .. months done fewer than the current one, as
- * many as the count says; the other places hold what they held before.
+ * A state, 376 x uint64_t. Index 0 to 14 is the current state: a soil, three numbers more, and the
+ * modern grams of the four active pools. (IOM's are not stored: they are its carbon x 2 / 1000,
+ * rounded down.) Index 15 is the kept count: how many months can be taken back, 0 to 24. From index
+ * 16 on there are 24 places for the states before the latest months: place p, counted from 0,
+ * begins at ROTHC_STATE_PLACES + ROTHC_KEPT_STATE * p and holds what index 0 to 14 held in the
+ * state that is kept there. The state with m months done is kept at place m mod 24, so that the
+ * 25th goes where the oldest was. Kept are the states with 1, 2, 3 .. months done fewer than the
+ * current one, as many as the count says; the other places hold what they held before.
  *
  * No call checks the kept states: the places can hold anything. Only rothc_month and rothc_list
  * write them, and only rothc_take_back reads them, so that they need not be set before rothc_start.
- * The 276 numbers can be copied, saved and lent again as they are. Whoever has only the first
- * eleven, which were a whole state before change 2026-02, has no kept months and must set the kept
- * count to 0: with another count rothc_take_back restores whatever stands in the place. For the
- * same reason let only the library change the months done and the kept count. */
+ * The 376 numbers can be copied, saved and lent again as they are. Whoever has a state from before
+ * change 2026-04 has its first eleven numbers and no modern grams: they must be set (to the pools'
+ * grams for pools of activity 1000, to 0 where no one will ask for radiocarbon), and the kept count
+ * to 0: with another count rothc_take_back restores whatever stands in the place. For the same
+ * reason let only the library change the months done and the kept count. */
 enum {
   ROTHC_SOIL_CLAY = 0,
   ROTHC_SOIL_DEPTH = 1,
@@ -113,12 +123,16 @@ enum {
   ROTHC_STATE_DEFICIT = 8,
   ROTHC_STATE_MONTHS = 9, /* months done */
   ROTHC_STATE_CO2 = 10,   /* CO2 to date, grams of carbon */
-  ROTHC_STATE_KEPT = 11,  /* the kept count */
-  ROTHC_STATE_PLACES = 12 /* the first place */
+  ROTHC_STATE_MODERN_DPM = 11,
+  ROTHC_STATE_MODERN_RPM = 12,
+  ROTHC_STATE_MODERN_BIO = 13,
+  ROTHC_STATE_MODERN_HUM = 14,
+  ROTHC_STATE_KEPT = 15,  /* the kept count */
+  ROTHC_STATE_PLACES = 16 /* the first place */
 };
 
-/* A month's entries, 7 x int64_t. A list's weather row is the first four and its land row the last
- * three. */
+/* A month's entries, 8 x int64_t. A list's weather row is the first four and its land row the last
+ * four. */
 enum {
   ROTHC_ENTRIES_TEMPERATURE = 0,
   ROTHC_ENTRIES_RAIN = 1,
@@ -126,7 +140,9 @@ enum {
   ROTHC_ENTRIES_SOURCE = 3, /* of the evaporation: 0 open pan, 1 potential evapotranspiration */
   ROTHC_ENTRIES_COVER = 4,  /* 1 crop, 0 bare */
   ROTHC_ENTRIES_PLANT = 5,
-  ROTHC_ENTRIES_MANURE = 6
+  ROTHC_ENTRIES_MANURE = 6,
+  ROTHC_ENTRIES_ACTIVITY = 7 /* of plant and manure, in thousandths, 0 to 2,000; where no one asks
+                                for radiocarbon, 1000 or any other */
 };
 
 /* A month's row, 7 x uint64_t: the pools after the month, the CO2 of the month and the deficit
@@ -150,7 +166,26 @@ enum { ROTHC_TEXT = 204800 };
 /* A spin-up's result, 2 x uint64_t. */
 enum { ROTHC_RESULT_SETTLED = 0, ROTHC_RESULT_YEARS = 1 };
 
-/* What rothc_survival and rothc_survival_terms return where they have no number to give. */
+/* What a radiocarbon report can be asked of: a pool, or all five together. */
+enum {
+  ROTHC_POOL_DPM = 0,
+  ROTHC_POOL_RPM = 1,
+  ROTHC_POOL_BIO = 2,
+  ROTHC_POOL_HUM = 3,
+  ROTHC_POOL_IOM = 4,
+  ROTHC_POOL_ALL = 5
+};
+
+/* A radiocarbon report, 3 x int64_t: delta in hundredths (of a per mille), whether there is an age,
+ * and the age in years, which is 0 where there is none. */
+enum { ROTHC_REPORT_DELTA = 0, ROTHC_REPORT_DATED = 1, ROTHC_REPORT_AGE = 2 };
+
+/* Whether there is an age: it is the report's; none up to 60,000 does it; or the pool has more
+ * modern grams than grams. */
+enum { ROTHC_DATED = 0, ROTHC_OLDER = 1, ROTHC_NEWER = 2 };
+
+/* What rothc_survival, rothc_survival_terms and rothc_age_survival return where they have no number
+ * to give. */
 #define ROTHC_NO_SURVIVAL UINT64_MAX
 
 /* The survival number of a pool in a month of rate number n: what the pool keeps of 1,000,000,000.
@@ -169,8 +204,9 @@ uint64_t rothc_survival(uint64_t n, uint64_t pool);
  * terms: one number. */
 uint64_t rothc_survival_terms(uint64_t n, uint64_t pool, uint64_t *terms);
 
-/* Writes the new state of a soil: the soil's numbers, and 0 for the deficit, the months done, the
- * CO2 to date and the kept count. The places stay as they were.
+/* Writes the new state of a soil: the soil's numbers, 0 for the deficit, the months done, the CO2
+ * to date and the kept count, and as many modern grams as grams in each active pool. The places
+ * stay as they were.
  * soil: ROTHC_SOIL numbers. state: ROTHC_STATE numbers, of any values.
  * Refusals: CLAY, DEPTH, KIND, CARBON. A refusal leaves state as it was. */
 uint64_t rothc_start(const uint64_t *soil, size_t soil_len, uint64_t *state, size_t state_len);
@@ -181,14 +217,15 @@ uint64_t rothc_start(const uint64_t *soil, size_t soil_len, uint64_t *state, siz
  * state: ROTHC_STATE numbers. entries: ROTHC_ENTRIES numbers. row: ROTHC_ROW numbers, of any
  * values.
  * Refusals: CLAY to CARBON for the state's soil, STATE_BOUNDS, and TURN to CEILING, with SOURCE
- * after WATER. A refusal leaves state and row as they were: a refused month keeps nothing. */
+ * after WATER and ACTIVITY after ADDITIONS. A refusal leaves state and row as they were: a refused
+ * month keeps nothing. */
 uint64_t rothc_month(uint64_t *state, size_t state_len, uint64_t number, const int64_t *entries,
                      size_t entries_len, uint64_t *row, size_t row_len);
 
 /* Takes the latest month back, whether rothc_month or rothc_list ran it: the state before it is the
  * current one again, so that the month can be booked afresh (docs/SLIPS.md). Another call takes
  * back the month before that.
- * Index 0 to 10 become what was kept, the months done and the CO2 to date among them, and the kept
+ * Index 0 to 14 become what was kept, the months done and the CO2 to date among them, and the kept
  * count is one less. The places stay as they were. A state doesn't hold the entries of its months:
  * the caller has to have those that are to be booked again. The row of a month taken back is void.
  * state: ROTHC_STATE numbers.
@@ -202,13 +239,13 @@ uint64_t rothc_take_back(uint64_t *state, size_t state_len);
  * j and weather row ((j - 1) mod weather rows) + 1. Each month that runs keeps the state before it,
  * as rothc_month does, so that a list's last 24 months can be taken back.
  * state: ROTHC_STATE numbers. weather: temperature, rain, evaporation, source for each row. land:
- * cover, plant, manure for each row. rows: at least ROTHC_ROW numbers a land row. place: one
- * number.
+ * cover, plant, manure, activity for each row. rows: at least ROTHC_ROW numbers a land row. place:
+ * one number.
  * Refusals: ROWS, CLAY to CARBON, ROOM, STATE_BOUNDS leave state and rows as they were and set
- * place to 0. MONTH_LIMIT to CEILING, with SOURCE after WATER, set place to the month that is
- * refused, counted from the list's first: the months before it have run, state is the one after
- * them with the states before them kept, and their rows are written. Where the list ran to its end,
- * place is 0. Only rows that its months use are checked. */
+ * place to 0. MONTH_LIMIT to CEILING, with SOURCE after WATER and ACTIVITY after ADDITIONS, set
+ * place to the month that is refused, counted from the list's first: the months before it have run,
+ * state is the one after them with the states before them kept, and their rows are written. Where
+ * the list ran to its end, place is 0. Only rows that its months use are checked. */
 uint64_t rothc_list(uint64_t *state, size_t state_len, const int64_t *weather, size_t weather_len,
                     const int64_t *land, size_t land_len, uint64_t *rows, size_t rows_len,
                     uint64_t *place);
@@ -217,15 +254,31 @@ uint64_t rothc_list(uint64_t *state, size_t state_len, const int64_t *weather, s
  * total (five pools) is at most 1,000 g from the total at its start, or until the years are run,
  * and leaves the state reached, settled or not, with none kept: the kept count is 0, and the places
  * stay as they were.
- * state: ROTHC_STATE numbers. weather: 48 numbers, land: 36, as in a list. years: those allowed, 1
+ * state: ROTHC_STATE numbers. weather: 48 numbers, land: 48, as in a list. years: those allowed, 1
  * to 10,000. result: ROTHC_RESULT numbers: 1 for settled or 0 for unsettled, and the years run.
  * Refusals: ROWS, CLAY to CARBON, YEARS, STATE_BOUNDS, and for one of the months MONTH_LIMIT to
- * CEILING, with SOURCE after WATER. A refusal leaves state as it was, the kept months too; result
- * then has 0 and the month that is refused, counted over all years from the first, or 0 for a fault
- * outside the months. */
+ * CEILING, with SOURCE after WATER and ACTIVITY after ADDITIONS. A refusal leaves state as it was,
+ * the kept months too; result then has 0 and the month that is refused, counted over all years from
+ * the first, or 0 for a fault outside the months. */
 uint64_t rothc_spin_up(uint64_t *state, size_t state_len, const int64_t *weather,
                        size_t weather_len, const int64_t *land, size_t land_len, uint64_t years,
                        uint64_t *result, size_t result_len);
+
+/* The radiocarbon report of a pool of a state, or of all five, whose modern grams and carbon are
+ * then added first (change 2026-04, docs/RADIOCARBON.md). pool: ROTHC_POOL_DPM to ROTHC_POOL_ALL.
+ * Delta is 100,000 x modern / carbon rounded down, less 100,000. Where modern exceeds carbon, the
+ * pool is ROTHC_NEWER. Else the age is the smallest whole number of years y, 0 to 60,000, whose
+ * survival number for w = y / 8035 is at most 1,000,000,000 x modern / carbon, compared as
+ * fractions; where no y does it, the pool is ROTHC_OLDER.
+ * state: ROTHC_STATE numbers, which stay. report: ROTHC_REPORT numbers, of any values.
+ * Refusals: CLAY to CARBON and STATE_BOUNDS for the state, then NO_CARBON. A refusal leaves report
+ * as it was. */
+uint64_t rothc_radiocarbon(const uint64_t *state, size_t state_len, uint64_t pool, int64_t *report,
+                           size_t report_len);
+
+/* The survival number of an age: what w = years / 8035 leaves of 1,000,000,000, as the report uses
+ * it. Returns ROTHC_NO_SURVIVAL where years is above 60,000. */
+uint64_t rothc_age_survival(uint64_t years);
 
 /* Runs a book, a text as docs/BOOK.md says, and writes to the start of out what the program writes
  * for it: POOLS, a line a month and TOTAL, or REFUSED with the number and the line. What lies past

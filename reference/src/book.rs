@@ -2,7 +2,7 @@
 
 use crate::model::{
     check_land, check_weather, run_month, Cause, Entries, Refusal, Row, Soil, State, Survival,
-    Watch, OPEN_PAN,
+    Watch, FRESH, OPEN_PAN,
 };
 
 /// The longest book (1).
@@ -156,7 +156,7 @@ fn pass(
     let mut rows = Vec::with_capacity(land_rows);
     for month in 0..land_rows {
         let [cover, plant, manure] = lines.row(false)?;
-        check_land(cover, plant, manure, state.soil.active())
+        check_land([cover, plant, manure, FRESH], state.soil.active())
             .map_err(|cause| lines.refuse(cause))?;
         let [temperature, rain, evaporation] = weather[month % weather_rows];
         let entries = Entries {
@@ -167,6 +167,7 @@ fn pass(
             cover,
             plant,
             manure,
+            activity: FRESH,
         };
         watch(&state, &entries);
         let (next, row) = run_month(&state, &entries, survival);
@@ -251,7 +252,8 @@ mod tests {
 
     #[test]
     fn january_1852() {
-        let book = "SOIL 1\n234 23 1 153300 4485200 667100 25857600 2700000\nWEATHER 1\n34 740 80\nLAND 1\n0 0 0\n";
+        let book = "SOIL 1\n234 23 1 153300 4485200 667100 25857600 2700000\nWEATHER 1\n\
+            34 740 80\nLAND 1\n0 0 0\n";
         assert_eq!(
             out(book),
             "POOLS 1\n1 113937 4445447 665104 25855106 2700000 83606 0\nTOTAL 33779594 83606\n"
@@ -284,7 +286,8 @@ mod tests {
     /// Any bytes end in one refusal line or in a full output.
     #[test]
     fn any_bytes_at_all() {
-        let good = b"SOIL 1\n234 23 1 1533 44852 6671 258576 27000\nWEATHER 2\n-34 740 80\n93 520 830\nLAND 2\n0 0 0\n1 610 9\n";
+        let good = b"SOIL 1\n234 23 1 1533 44852 6671 258576 27000\nWEATHER 2\n-34 740 80\n\
+            93 520 830\nLAND 2\n0 0 0\n1 610 9\n";
         let mut seed = 7u64;
         let mut draw = |limit: usize| {
             seed = seed

@@ -5,15 +5,21 @@
 
 use crate::calls::{
     entries_of, lent_state, rate, soil_of, state_of, Act, Call, EntryNumbers, LandRow, OwnNumbers,
-    SoilNumbers, StateNumbers, WeatherRow, CLAY, CO2, COVER, DEFICIT, DEPTH, EVAPORATION, FILL,
-    INERT, KEPT, KIND, LARGEST_N as MOST, MANURE, MONTHS, MOST_ACTS, NO_SURVIVAL, OWN_NUMBERS,
-    PLACES, PLANT, POOLS, RAIN, SOIL_NUMBERS, SOURCE, STATE_NUMBERS, TEMPERATURE,
+    SoilNumbers, StateNumbers, WeatherRow, ACTIVITY, ALL, CLAY, CO2, COVER, DEFICIT, DEPTH,
+    EVAPORATION, FILL, INERT, KEPT, KIND, LARGEST_N as MOST, MANURE, MODERN, MONTHS, MOST_ACTS,
+    NO_SURVIVAL, OWN_NUMBERS, PLACES, PLANT, POOLS, RAIN, REPORT_NUMBERS, SOIL_NUMBERS, SOURCE,
+    STATE_NUMBERS, TEMPERATURE, WRONG_SHAPE,
 };
 use crate::exponential::{
-    allowed_range, exponent_parts, least_n, least_remainder, series_remainder, survival_nearest,
-    survival_range, temperature_factor, terms, BILLION, MOST_TERMS, STEP_PARTS,
+    age_nearest, age_range, exponent_parts, least_n, least_remainder, series_remainder,
+    survival_nearest, survival_range, temperature_factor, terms, BILLION, MOST_TERMS, OLDEST,
+    STEP_PARTS,
 };
-use crate::model::{factors, kept, Nearest, LAND_NUMBERS, OUTPUT_NUMBERS, RATES, WEATHER_NUMBERS};
+use crate::fixed::keeps_fixed;
+use crate::model::{
+    added, brought, decayed, factors, kept, month_left, split_manure, split_plant, Nearest,
+    LAND_NUMBERS, OUTPUT_NUMBERS, RATES, WEATHER_NUMBERS,
+};
 use crate::table;
 use crate::vectors::Draw;
 
@@ -141,6 +147,11 @@ pub fn groups() -> Vec<Group> {
     month_sources(&mut sheet);
     month_evapotranspiration(&mut sheet);
     month_kept(&mut sheet);
+    month_activity(&mut sheet);
+    month_modern_limit(&mut sheet);
+    month_modern_loss(&mut sheet);
+    month_modern_additions(&mut sheet);
+    month_modern_drawn(&mut sheet);
     list_rows(&mut sheet);
     list_output(&mut sheet);
     list_outside(&mut sheet);
@@ -149,12 +160,15 @@ pub fn groups() -> Vec<Group> {
     list_drawn(&mut sheet);
     list_sources(&mut sheet);
     list_kept(&mut sheet);
+    list_activity(&mut sheet);
+    list_modern_limit(&mut sheet);
     spin_outside(&mut sheet);
     spin_years(&mut sheet);
     spin_places(&mut sheet);
     spin_drawn(&mut sheet);
     spin_sources(&mut sheet);
     spin_kept(&mut sheet);
+    spin_modern(&mut sheet);
     back_places(&mut sheet);
     back_refused(&mut sheet);
     back_unchecked(&mut sheet);
@@ -164,7 +178,15 @@ pub fn groups() -> Vec<Group> {
     history_refused_months(&mut sheet);
     history_lists(&mut sheet);
     history_spin_ups(&mut sheet);
+    history_modern(&mut sheet);
     history_drawn(&mut sheet);
+    report_pools(&mut sheet);
+    report_refused(&mut sheet);
+    report_deltas(&mut sheet);
+    report_ages(&mut sheet);
+    report_inert(&mut sheet);
+    report_all(&mut sheet);
+    report_drawn(&mut sheet);
     table_forms(&mut sheet);
     table_numbers(&mut sheet);
     table_months(&mut sheet);
@@ -181,6 +203,8 @@ pub fn groups() -> Vec<Group> {
     terms_multiples(&mut sheet);
     terms_refused(&mut sheet);
     terms_too_far(&mut sheet);
+    age_numbers(&mut sheet);
+    age_ends(&mut sheet);
     sheet.groups
 }
 
@@ -212,16 +236,21 @@ const SOIL: SoilNumbers = [234, 23, 1, 1_533, 44_852, 6_671, 258_576, 27_000];
 /// A state that nothing refuses: ten months done, none kept.
 const STATE: StateNumbers = lent_state(
     [
-        234, 23, 1, 1_533, 44_852, 6_671, 258_576, 27_000, 5_000_000, 10, 12_345,
+        234, 23, 1, 1_533, 44_852, 6_671, 258_576, 27_000, 5_000_000, 10, 12_345, 1_597, 44_816,
+        6_590, 253_070,
     ],
     0,
 );
 /// Frost: nothing decays, so any pools are fixed.
-const FROST: EntryNumbers = [-60, 500, 300, 0, 0, 61, 99];
-const MILD: EntryNumbers = [93, 520, 830, 0, 1, 610, 990];
+const FROST: EntryNumbers = [-60, 500, 300, 0, 0, 61, 99, 1_000];
+const MILD: EntryNumbers = [93, 520, 830, 0, 1, 610, 990, 1_100];
 
 const CEILING: u64 = 1_000_000_000;
 const A_MONTH: u64 = 200_000_000;
+/// Modern grams that 10 allows for each month done.
+const MODERN_A_MONTH: u64 = 400_000_000;
+/// An activity below and above what 21 allows, and the ends of i64.
+const BAD_ACTIVITIES: [i64; 4] = [-1, 2_001, i64::MIN, i64::MAX];
 
 fn changed<const N: usize, T: Copy>(mut numbers: [T; N], changes: &[(usize, T)]) -> [T; N] {
     for (place, number) in changes {
@@ -238,6 +267,14 @@ fn new(changes: &[(usize, u64)]) -> Call {
 
 fn pools(pools: [u64; 4]) -> [(usize, u64); 4] {
     std::array::from_fn(|pool| (POOLS + pool, pools[pool]))
+}
+
+/// Pools with as many modern grams.
+fn weighed(grams: [u64; 4]) -> [(usize, u64); 8] {
+    std::array::from_fn(|index| match index {
+        0..4 => (POOLS + index, grams[index]),
+        _ => (MODERN + index - 4, grams[index - 4]),
+    })
 }
 
 /// M of step 3.
@@ -380,27 +417,31 @@ fn month_known(sheet: &mut Sheet) {
     let hoosfield = new_state([
         234, 23, 1, 153_300, 4_485_200, 667_100, 25_857_600, 2_700_000,
     ]);
-    let january = month(hoosfield, 1, [34, 740, 80, 0, 0, 0, 0]);
+    let january = month(hoosfield, 1, [34, 740, 80, 0, 0, 0, 0, 1_000]);
     sheet.runs(january);
     assert_eq!(
         sheet.answer()[..8],
         [0, 113_937, 4_445_447, 665_104, 25_855_106, 2_700_000, 83_606, 0]
     );
-    let empty = changed(hoosfield, &pools([0; 4]));
+    assert_eq!(
+        modern_after(sheet),
+        [113_935, 4_445_401, 665_097, 25_854_836]
+    );
+    let empty = changed(hoosfield, &weighed([0; 4]));
     // 61 g of plant: 36 and 25. 99 g of manure: 48, 50 and 1.
-    sheet.runs(month(empty, 1, [93, 740, 80, 0, 0, 61, 0]));
-    sheet.runs(month(empty, 1, [93, 740, 80, 0, 0, 0, 99]));
+    sheet.runs(month(empty, 1, [93, 740, 80, 0, 0, 61, 0, 1_000]));
+    sheet.runs(month(empty, 1, [93, 740, 80, 0, 0, 0, 99, 1_000]));
     // 27.50 mm and M: B 7585 and 2000 (the pools show B).
-    let some = pools([100_000_003, 90_000_007, 80_000_000, 70_000_001]);
+    let some = weighed([100_000_003, 90_000_007, 80_000_000, 70_000_001]);
     for deficit in [56_925_000, deficit_limit(&hoosfield)] {
         let state = changed(changed(hoosfield, &some), &[(DEFICIT, deficit)]);
-        sheet.runs(fixed_pools(month(state, 1, [93, 0, 0, 0, 1, 0, 0])));
+        sheet.runs(fixed_pools(month(state, 1, [93, 0, 0, 0, 1, 0, 0, 1_000])));
     }
     // Active 1,000,000,000 with no additions runs; one gram added is 17.
-    let full = changed(hoosfield, &pools([CEILING, 0, 0, 0]));
-    sheet.runs(month(full, 1, [-51, 740, 80, 0, 0, 0, 0]));
-    sheet.refused(17, month(full, 1, [34, 740, 80, 0, 0, 1, 0]));
-    sheet.refused(17, month(full, 1, [34, 740, 80, 0, 0, 0, 1]));
+    let full = changed(hoosfield, &weighed([CEILING, 0, 0, 0]));
+    sheet.runs(month(full, 1, [-51, 740, 80, 0, 0, 0, 0, 1_000]));
+    sheet.refused(17, month(full, 1, [34, 740, 80, 0, 0, 1, 0, 1_000]));
+    sheet.refused(17, month(full, 1, [34, 740, 80, 0, 0, 0, 1, 1_000]));
 }
 
 /// 4 to 7 of the soil inside a lent state.
@@ -493,7 +534,7 @@ fn month_state(sheet: &mut Sheet) {
         10,
         frozen(&[full[0], full[1], full[2], full[3], (CO2, u64::MAX)]),
     );
-    let still = [-60, 0, 0, 0, 0, 0, 0];
+    let still = [-60, 0, 0, 0, 0, 0, 0, 1_000];
     for (months, co2, number) in [
         (0, 0, 0),
         (0, 1, 10),
@@ -544,10 +585,10 @@ fn month_turn(sheet: &mut Sheet) {
     }
 }
 
-/// 13 to 16 and 19 from both sides of each bound, and at the ends of i64.
+/// 13 to 16, 19 and 21 from both sides of each bound, and at the ends of i64.
 fn month_entries(sheet: &mut Sheet) {
-    sheet.group("M: 13 to 16 and 19 on both sides of each bound, ends of i64");
-    let bounds: [(usize, u64, &[i64], &[i64]); 7] = [
+    sheet.group("M: 13 to 16, 19 and 21 on both sides of each bound, ends of i64");
+    let bounds: [(usize, u64, &[i64], &[i64]); 8] = [
         (
             TEMPERATURE,
             13,
@@ -569,6 +610,12 @@ fn month_entries(sheet: &mut Sheet) {
             16,
             &[0, 1, 99_999_999, 100_000_000],
             &[-1, 100_000_001],
+        ),
+        (
+            ACTIVITY,
+            21,
+            &[0, 1, 999, 1_000, 1_001, 1_999, 2_000],
+            &[-1, 2_001, -1_000, 3_000],
         ),
     ];
     for (place, number, good, bad) in bounds {
@@ -640,7 +687,11 @@ fn month_ceiling(sheet: &mut Sheet) {
             };
             let state = changed(STATE, &pools(grams));
             let with = |temperature: i64, plant: i64, manure: i64| {
-                month(state, 11, [temperature, 500, 300, 0, 1, plant, manure])
+                month(
+                    state,
+                    11,
+                    [temperature, 500, 300, 0, 1, plant, manure, 1_000],
+                )
             };
             sheet.runs(with(-60, plant, manure));
             // One gram more of one of them, in frost and in a heat that would make room.
@@ -655,7 +706,10 @@ fn month_ceiling(sheet: &mut Sheet) {
             // One gram more in the soil.
             if active < CEILING {
                 let more = changed(state, &[(POOLS + 2, state[POOLS + 2] + 1)]);
-                sheet.refused(17, month(more, 11, [500, 500, 300, 0, 1, plant, manure]));
+                sheet.refused(
+                    17,
+                    month(more, 11, [500, 500, 300, 0, 1, plant, manure, 1_000]),
+                );
             }
         }
     }
@@ -667,7 +721,7 @@ fn month_ceiling(sheet: &mut Sheet) {
 }
 
 /// Numbers of a month's refusals in checking order.
-const MONTH_REFUSALS: [u64; 13] = [4, 5, 6, 7, 10, 11, 12, 13, 14, 19, 15, 16, 17];
+const MONTH_REFUSALS: [u64; 14] = [4, 5, 6, 7, 10, 11, 12, 13, 14, 19, 15, 16, 21, 17];
 
 /// The base month with all these faults at once, each in the given one of three ways.
 fn faulty(faults: &[u64], way: usize) -> Call {
@@ -734,6 +788,9 @@ fn faulty(faults: &[u64], way: usize) -> Call {
             _ => (entries[PLANT], entries[MANURE]) = (i64::MAX, i64::MAX),
         }
     }
+    if with(21) {
+        entries[ACTIVITY] = [-1, 2_001, i64::MIN][way];
+    }
     month(state, number, entries)
 }
 
@@ -773,6 +830,7 @@ fn month_unreached(sheet: &mut Sheet) {
             state[POOLS + pool] = draw.below(150_000_001);
         }
         state[INERT] = draw.below(CEILING + 1);
+        weigh(&mut draw, &mut state);
         let limit = deficit_limit(&state);
         state[DEFICIT] = [0, 1, limit / 9 * 5 + 1, limit - 1, limit][round % 5];
         state[MONTHS] = [0, 1, 119_998, 119_999][round % 4];
@@ -784,6 +842,7 @@ fn month_unreached(sheet: &mut Sheet) {
             (round / 3 % 2) as i64,
             draw.between(0, 40_000_000),
             draw.between(0, 40_000_000),
+            drawn_activity(&mut draw),
         ];
         if round % 7 == 0 {
             (entries[RAIN], entries[EVAPORATION]) = (0, 0);
@@ -808,7 +867,7 @@ fn month_unreached(sheet: &mut Sheet) {
 
 /// A month on this soil with this deficit and large pools, which show B.
 fn wetted(clay: u64, depth: u64, deficit: u64, entries: EntryNumbers) -> Call {
-    let big = pools([100_000_000, 90_000_000, 80_000_000, 70_000_000]);
+    let big = weighed([100_000_000, 90_000_000, 80_000_000, 70_000_000]);
     let own = [(CLAY, clay), (DEPTH, depth), (DEFICIT, deficit)];
     fixed_pools(month(changed(changed(STATE, &big), &own), 11, entries))
 }
@@ -821,7 +880,7 @@ fn month_water(sheet: &mut Sheet) {
     let mut water = |sheet: &mut Sheet, clay: u64, depth: u64, deficit: u64, rest: [i64; 3]| {
         let [rain, evaporation, cover] = rest;
         let temperature = draw.between(50, 300);
-        let entries = [temperature, rain, evaporation, 0, cover, 0, 0];
+        let entries = [temperature, rain, evaporation, 0, cover, 0, 0, 1_000];
         sheet.runs(wetted(clay, depth, deficit, entries));
     };
     for (clay, depth) in [(0, 1), (1000, 100), (234, 23), (650, 77)] {
@@ -874,19 +933,23 @@ fn month_shares(sheet: &mut Sheet) {
             (99_999_999, 99_999_999),
             (100_000_000, 100_000_000),
         ] {
-            sheet.runs(month(empty, 11, [93, 500, 300, 0, 0, plant, manure]));
+            sheet.runs(month(empty, 11, [93, 500, 300, 0, 0, plant, manure, 1_000]));
         }
     }
     // Tiny pools in great heat: losses of a few grams, formed and its 46 hundredths rounded down.
     for grams in [1, 2, 3, 5, 9, 14, 22, 40] {
         let state = changed(STATE, &pools([grams, 40 - grams / 2, grams * 3, grams * 7]));
-        sheet.runs(month(state, 11, [500, 500, 300, 0, 0, 0, 0]));
-        sheet.runs(month(state, 11, [500, 0, 20_000, 0, 1, grams as i64, 3]));
+        sheet.runs(month(state, 11, [500, 500, 300, 0, 0, 0, 0, 1_000]));
+        sheet.runs(month(
+            state,
+            11,
+            [500, 0, 20_000, 0, 1, grams as i64, 3, 1_500],
+        ));
     }
 }
 
-/// Redraws the pools of an accepted month until all allowed S keep the same grams: from each
-/// pool's grams downward the first that are fixed.
+/// Lowers the pools of an accepted month until all allowed S keep the same grams: from each pool's
+/// grams downward the first that are fixed. Its modern grams likewise.
 fn fixed_pools(call: Call) -> Call {
     let Call::Month {
         mut state,
@@ -899,10 +962,11 @@ fn fixed_pools(call: Call) -> Call {
     let own = state_of(&state);
     let n = factors(&own.soil, own.deficit, &entries_of(&entries)).n;
     for pool in 0..4 {
-        let (lowest, highest) = allowed_range(n, RATES[pool]);
-        let grams = &mut state[POOLS + pool];
-        while kept(*grams, lowest) != kept(*grams, highest) {
-            *grams -= 1;
+        while !keeps_fixed(n, pool, state[POOLS + pool]) {
+            state[POOLS + pool] -= 1;
+        }
+        while !keeps_fixed(n, pool, month_left(state[MODERN + pool])) {
+            state[MODERN + pool] -= 1;
         }
     }
     month(state, number, entries)
@@ -963,6 +1027,7 @@ fn drawn_month(draw: &mut Draw, clay: u64, temperature: i64, source: i64) -> Cal
             state[POOLS + pool] = draw.below(100_000_000);
         }
         state[INERT] = draw.below(100_000);
+        weigh(draw, &mut state);
         let limit = deficit_limit(&state);
         state[DEFICIT] = draw.below(4).min(1) * draw.below(limit + 1);
         state[MONTHS] = draw.below(120_000);
@@ -976,6 +1041,7 @@ fn drawn_month(draw: &mut Draw, clay: u64, temperature: i64, source: i64) -> Cal
             draw.between(0, 1),
             draw.between(0, 1) * draw.between(0, 9_000_000),
             draw.between(0, 1) * draw.between(0, 9_000_000),
+            drawn_activity(draw),
         ];
         let call = fixed_pools(month(state, state[MONTHS] + 1, entries));
         if shows_factors(&call) {
@@ -1049,7 +1115,7 @@ fn month_evapotranspiration(sheet: &mut Sheet) {
         (150_000_000, [0, 20_000, 1, 0], 150_000_000),
         (150_000_000, [0, 20_000, 1, 1], 180_000_000),
     ] {
-        let entries = [93, rain, evaporation, source, cover, 0, 0];
+        let entries = [93, rain, evaporation, source, cover, 0, 0, 1_000];
         sheet.runs(wetted(0, 100, deficit, entries));
         assert_eq!(sheet.answer()[OUTPUT_NUMBERS], after, "{entries:?}");
     }
@@ -1109,6 +1175,325 @@ fn month_kept(sheet: &mut Sheet) {
     }
 }
 
+/// 21 in its turn: after 16, before 17; also where nothing is added.
+fn month_activity(sheet: &mut Sheet) {
+    sheet.group("M: 21 after 16 and before 17, also with nothing to add; 0 and 2000 run");
+    let full = changed(STATE, &pools([CEILING, 0, 0, 0]));
+    for activity in BAD_ACTIVITIES {
+        for (number, place, value) in [
+            (13, TEMPERATURE, 501),
+            (14, RAIN, -1),
+            (19, SOURCE, 2),
+            (15, COVER, 2),
+            (16, PLANT, -1),
+            (16, PLANT, 100_000_001),
+            (16, MANURE, -1),
+            (16, MANURE, i64::MAX),
+        ] {
+            sheet.refused(number, entered(&[(ACTIVITY, activity), (place, value)]));
+        }
+        let entries = changed(FROST, &[(ACTIVITY, activity)]);
+        sheet.refused(21, month(full, 11, entries));
+        sheet.refused(11, month(full, 12, entries));
+        sheet.refused(
+            21,
+            entered(&[(ACTIVITY, activity), (PLANT, 0), (MANURE, 0)]),
+        );
+    }
+    for activity in [0, 2_000] {
+        sheet.refused(17, month(full, 11, changed(FROST, &[(ACTIVITY, activity)])));
+        for (plant, manure) in [(0, 0), (61, 0), (0, 99), (100_000_000, 100_000_000)] {
+            let own = [(ACTIVITY, activity), (PLANT, plant), (MANURE, manure)];
+            sheet.runs(entered(&own));
+        }
+    }
+}
+
+/// The modern grams of a state's four active pools.
+fn modern(grams: [u64; 4]) -> [(usize, u64); 4] {
+    std::array::from_fn(|pool| (MODERN + pool, grams[pool]))
+}
+
+/// The base month in frost with these modern grams and months done.
+fn weighing(months: u64, grams: [u64; 4]) -> Call {
+    frozen(&[&modern(grams)[..], &[(MONTHS, months)]].concat())
+}
+
+/// 10 for modern grams: the active pools' together, at the limit and above, in each pool and spread
+/// over them; sums that wrap; its place among the others.
+fn month_modern_limit(sheet: &mut Sheet) {
+    sheet.group("M: modern grams at 10's limit and one above, in each pool and together");
+    for months in [0, 1, 10, 59_999, 119_999, 120_000] {
+        let bound = CEILING + MODERN_A_MONTH * months;
+        let number = if months == 120_000 { 12 } else { 0 };
+        for pool in 0..4 {
+            let mut grams = [0; 4];
+            grams[pool] = bound;
+            sheet.either(number, weighing(months, grams));
+            grams[(pool + 1) % 4] = 1;
+            sheet.refused(10, weighing(months, grams));
+            grams = [bound / 4; 4];
+            sheet.either(number, weighing(months, grams));
+            grams[pool] += 1;
+            sheet.refused(10, weighing(months, grams));
+        }
+        // Above what carbon may be with its CO2.
+        let carbon = CEILING + A_MONTH * months;
+        if months > 0 {
+            sheet.either(number, weighing(months, [carbon, 1, 0, 0]));
+        }
+    }
+    sheet.group("M: modern grams of any 64 bits in each pool, sums that would wrap, 10");
+    for pool in 0..4 {
+        for end in [u64::MAX, 1 << 63, (1 << 63) - 1, 1 << 48, 1 << 33] {
+            let mut grams = [0; 4];
+            grams[pool] = end;
+            sheet.refused(10, weighing(10, grams));
+            // With its neighbour these wrap to something small.
+            grams[(pool + 1) % 4] = 0u64.wrapping_sub(end);
+            sheet.refused(10, weighing(10, grams));
+            grams[(pool + 1) % 4] = CEILING.wrapping_sub(end);
+            sheet.refused(10, weighing(119_999, grams));
+        }
+    }
+    for grams in [
+        [1 << 62; 4],
+        [u64::MAX; 4],
+        [u64::MAX, 1, u64::MAX, 1],
+        [1 << 63, 0, 1 << 63, 0],
+    ] {
+        for months in [0, 119_999] {
+            sheet.refused(10, weighing(months, grams));
+        }
+    }
+    sheet.group("M: 10 for modern grams after 4 to 7 and before 11");
+    for grams in [[48_001_000_000_001, 0, 0, 0], [0, 0, u64::MAX, 1]] {
+        for number in MONTH_REFUSALS {
+            let Call::Month {
+                state,
+                number: turn,
+                entries,
+            } = faulty(&[number], 1)
+            else {
+                unreachable!()
+            };
+            let first = if number > 7 { 10 } else { number };
+            sheet.refused(first, month(changed(state, &modern(grams)), turn, entries));
+        }
+    }
+}
+
+/// The modern grams after the last line, a month.
+fn modern_after(sheet: &Sheet) -> [u64; 4] {
+    std::array::from_fn(|pool| sheet.answer()[1 + OUTPUT_NUMBERS + MODERN + pool])
+}
+
+/// What a month in frost leaves of modern grams. Where pools decay, only up to some 200,000,000 are
+/// fixed: with more an S one off shows.
+fn month_modern_loss(sheet: &mut Sheet) {
+    sheet.group("M: modern grams by 999,989,629 billionths, up to 48,000,600,000,000, in frost");
+    let nothing = [-60, 0, 0, 0, 0, 0, 0, 1_000];
+    for (months, before, after) in [
+        (10, [0, 1, 2, 3], [0, 0, 1, 2]),
+        (
+            10,
+            [1_000, 96_422, 96_423, 96_424],
+            [999, 96_421, 96_421, 96_422],
+        ),
+        (
+            10,
+            [1_000_000_000, 100_000_000, 10_000_000, 1_000_000],
+            [999_989_629, 99_998_962, 9_999_896, 999_989],
+        ),
+        (
+            119_999,
+            [48_000_600_000_000, 0, 0, 0],
+            [48_000_102_185_777, 0, 0, 0],
+        ),
+        (
+            119_999,
+            [0, 0, 0, 48_000_600_000_000],
+            [0, 0, 0, 48_000_102_185_777],
+        ),
+        (119_999, [12_000_150_000_000; 4], [12_000_025_546_444; 4]),
+        (
+            119_999,
+            [1, 48_000_599_999_997, 1, 1],
+            [0, 48_000_102_185_774, 0, 0],
+        ),
+        // 2^32 and 2^32 + 1, 18,446,744,073 and 18,446,744,074: products beside 2^62 and 2^64.
+        (
+            119_999,
+            [4_294_967_296, 4_294_967_297, 18_446_744_073, 18_446_744_074],
+            [4_294_922_752, 4_294_922_753, 18_446_552_761, 18_446_552_762],
+        ),
+    ] {
+        let state = changed(STATE, &[&modern(before)[..], &[(MONTHS, months)]].concat());
+        sheet.runs(month(state, months + 1, nothing));
+        assert_eq!(modern_after(sheet), after, "{before:?}");
+    }
+    // What a month brings, beside the most that there can be: less than the next month's limit.
+    let most = [-60, 0, 0, 0, 0, 100_000_000, 100_000_000, 2_000];
+    for pool in 0..4 {
+        for months in [0, 119_999] {
+            let mut grams = [0; 4];
+            grams[pool] = CEILING + MODERN_A_MONTH * months;
+            let own = [&modern(grams)[..], &[(MONTHS, months)]].concat();
+            sheet.runs(month(changed(STATE, &own), months + 1, most));
+        }
+    }
+}
+
+/// Additions bring plant and manure times activity over 1000, each rounded down by itself and then
+/// split; nothing is lost in their own month.
+fn month_modern_additions(sheet: &mut Sheet) {
+    sheet
+        .group("M: what additions bring: plant and manure by activity one by one, then the shares");
+    let empty = changed(STATE, &weighed([0; 4]));
+    for (plant, manure, activity, after) in [
+        (61, 0, 1_000, [36, 25, 0, 0]),
+        (61, 0, 2_000, [72, 50, 0, 0]),
+        (61, 99, 0, [0, 0, 0, 0]),
+        (0, 99, 1_000, [48, 50, 0, 1]),
+        // 100.009: 49, 49 and 2, where the carbon's 44, 46 and 1 would give 48, 50 and 1.
+        (0, 91, 1_099, [49, 49, 0, 2]),
+        // 121.999 of 61 g: 71 and 50, where 36 and 25 would give 71 and 49.
+        (61, 0, 1_999, [71, 50, 0, 0]),
+        // 1.999 each: 1 and 1, not 3 together.
+        (1, 1, 1_999, [0, 2, 0, 0]),
+        // 0.5 each: nothing, not 1 together.
+        (500, 500, 1, [0, 0, 0, 0]),
+        (999, 999, 1, [0, 0, 0, 0]),
+        (1_000, 999, 1, [0, 1, 0, 0]),
+        (999, 1_000, 1, [0, 1, 0, 0]),
+        (1, 0, 999, [0, 0, 0, 0]),
+        (1, 0, 1_000, [0, 1, 0, 0]),
+        (3, 0, 1_999, [2, 3, 0, 0]),
+        (0, 100, 500, [24, 25, 0, 1]),
+        (0, 100, 499, [24, 25, 0, 0]),
+        // A loss of 1 in 96,423 would show.
+        (100_000_000, 0, 1_000, [59_016_393, 40_983_607, 0, 0]),
+        (
+            0,
+            100_000_000,
+            2_000,
+            [98_000_000, 98_000_000, 0, 4_000_000],
+        ),
+        (
+            100_000_000,
+            100_000_000,
+            2_000,
+            [216_032_786, 179_967_214, 0, 4_000_000],
+        ),
+    ] {
+        for temperature in [-60, 250] {
+            let entries = [temperature, 500, 300, 0, 0, plant, manure, activity];
+            sheet.runs(month(empty, 11, entries));
+            assert_eq!(modern_after(sheet), after, "{entries:?}");
+        }
+    }
+    sheet.group("M: activities 0, 1, 999, 1000, 1001, 1999 and 2000 for each kind");
+    let mut draw = Draw::new(101);
+    for kind in 1..=3 {
+        for activity in [0, 1, 999, 1_000, 1_001, 1_999, 2_000] {
+            for largest in [300, 100_000_000] {
+                let state = changed(empty, &[(KIND, kind)]);
+                let (plant, manure) = (draw.between(0, largest), draw.between(0, largest));
+                let entries = [93, 500, 300, 0, 1, plant, manure, activity];
+                sheet.runs(month(state, 11, entries));
+            }
+        }
+    }
+}
+
+/// What slips would leave of the modern grams of an accepted month.
+fn modern_slips(call: &Call) -> Vec<[u64; 4]> {
+    let Call::Month { state, entries, .. } = call else {
+        panic!("a month")
+    };
+    let (own, entries) = (state_of(state), entries_of(entries));
+    let right = factors(&own.soil, own.deficit, &entries);
+    let survivals = RATES.map(|k| survival_nearest(right.n, k));
+    let (kind, activity) = (own.soil.kind, entries.activity);
+    let grams = [entries.plant as u64, entries.manure as u64];
+    let bring = |grams: [u64; 2]| grams.map(|grams| brought(grams, activity));
+    let after = |modern: [u64; 4], [plant, manure]: [u64; 2]| {
+        let pools = decayed(modern, &survivals, right.clay).0;
+        added(pools, kind, plant, manure)
+    };
+    let left = own.modern.map(month_left);
+    // Each share of the carbon by the activity.
+    let (plant_shares, manure_shares) = (split_plant(kind, grams[0]), split_manure(grams[1]));
+    let mut by_shares = decayed(left, &survivals, right.clay).0;
+    for (pool, share) in [
+        (0, plant_shares.0),
+        (1, plant_shares.1),
+        (0, manure_shares.0),
+        (1, manure_shares.1),
+        (3, manure_shares.2),
+    ] {
+        by_shares[pool] += brought(share, activity);
+    }
+    let together = brought(grams[0] + grams[1], activity) - bring(grams)[0];
+    vec![
+        // No loss; the loss after the decay; a loss of the additions; one rounded up.
+        after(own.modern, bring(grams)),
+        added(
+            decayed(own.modern, &survivals, right.clay)
+                .0
+                .map(month_left),
+            kind,
+            bring(grams)[0],
+            bring(grams)[1],
+        ),
+        after(left, bring(grams).map(month_left)),
+        after(left.map(|grams| grams + 1), bring(grams)),
+        // Split before the activity; plant and manure together; the nearest whole number.
+        by_shares,
+        after(left, [bring(grams)[0], together]),
+        after(
+            left,
+            grams.map(|grams| (grams * activity as u64 + 500) / 1_000),
+        ),
+        // The carbon's pools.
+        after(own.soil.pools, grams),
+    ]
+}
+
+/// Months whose modern grams have nothing to do with their carbon; any of the slips would show.
+fn month_modern_drawn(sheet: &mut Sheet) {
+    sheet.group("M: drawn months with modern grams of their own; slips in each step would show");
+    let mut draw = Draw::new(103);
+    let mut made = 0;
+    while made < 80 {
+        let mut state = drawn_state(&mut draw, 100_000_000);
+        state[MONTHS] = draw.below(119_999);
+        for pool in 0..4 {
+            let largest = [0, 90, 9_000_000, 190_000_000][draw.below(4) as usize];
+            state[MODERN + pool] = draw.below(largest + 1);
+            // Pools without carbon may have modern grams too.
+            if draw.below(8) == 0 {
+                state[POOLS + pool] = 0;
+            }
+        }
+        let mut entries = drawn_entries(&mut draw);
+        entries[TEMPERATURE] = draw.between(-50, 400);
+        entries[PLANT] = draw.between(0, 40_000_000);
+        entries[MANURE] = draw.between(0, 40_000_000);
+        entries[ACTIVITY] = draw.between(1, 2_000);
+        let call = fixed_pools(month(state, state[MONTHS] + 1, entries));
+        let (answer, _) = call.fixed_answer();
+        let at = 1 + OUTPUT_NUMBERS + MODERN;
+        if modern_slips(&call)
+            .iter()
+            .all(|slip| answer[at..at + 4] != slip[..])
+        {
+            sheet.runs(call);
+            made += 1;
+        }
+    }
+}
+
 // ---- L: a list of months ----
 
 fn list(weather: &[i64], land: &[i64], output: usize, state: StateNumbers) -> Call {
@@ -1128,6 +1513,7 @@ fn fresh() -> StateNumbers {
 fn new_state(soil: SoilNumbers) -> StateNumbers {
     let mut own = [0; OWN_NUMBERS];
     own[..SOIL_NUMBERS].copy_from_slice(&soil);
+    own[MODERN..].copy_from_slice(&soil[POOLS..INERT]);
     lent_state(own, 0)
 }
 
@@ -1137,14 +1523,12 @@ fn rows<const N: usize>(row: [i64; N], count: usize) -> Vec<i64> {
 
 const COLD: WeatherRow = [-60, 0, 0, 0];
 const MAY: WeatherRow = [110, 520, 830, 0];
-const BARE: LandRow = [0, 0, 0];
-const CROP: LandRow = [1, 610, 0];
+const BARE: LandRow = [0, 0, 0, 1_000];
+const CROP: LandRow = [1, 610, 0, 1_000];
 
-/// 3: rows 0, 1, 2, 3, 1200, 1201 of either list, weather not in fours, land not in threes.
+/// 3: rows 0, 1, 2, 3, 1200, 1201 of either list, weather or land not in fours.
 fn list_rows(sheet: &mut Sheet) {
-    sheet.group(
-        "L: rows 0, 1, 2, 3, 1200, 1201 of either list; weather not in fours, land not in threes",
-    );
+    sheet.group("L: rows 0, 1, 2, 3, 1200, 1201 of either list; weather or land not in fours");
     let state = fresh();
     for count in [1, 2, 3] {
         for other in [1, 2, 3] {
@@ -1158,15 +1542,17 @@ fn list_rows(sheet: &mut Sheet) {
     }
     let none: [i64; 0] = [];
     sheet.refused_at(3, 0, list(&none, &none, 0, state));
-    // Threes that are no fours, and fours that are no threes, among them.
+    // Threes that are no fours among them.
     for count in [0, 1, 2, 3, 5, 6, 7, 9, 10, 11, 15, 18] {
         sheet.refused_at(3, 0, list(&rows(MAY, 5)[..count], &CROP, 7, state));
     }
-    for count in [0, 1, 2, 4, 5, 7, 8, 10, 16] {
+    for count in [0, 1, 2, 3, 5, 6, 7, 9, 15, 18, 21] {
         sheet.refused_at(3, 0, list(&MAY, &rows(CROP, 6)[..count], 42, state));
     }
+    // Four rows of three numbers are three of four.
+    sheet.runs(list(&MAY, &[0; 12], 28, state));
     // 1,200 rows of each: tiny pools keep it fixed. Weather of 1,200 rows for one month.
-    let tiny = changed(fresh(), &pools([90, 80, 70, 60]));
+    let tiny = changed(fresh(), &weighed([90, 80, 70, 60]));
     let year = [
         [34, 740, 80, 0],
         [110, 520, 830, 0],
@@ -1174,7 +1560,13 @@ fn list_rows(sheet: &mut Sheet) {
         [-60, 580, 690, 0],
     ]
     .concat();
-    let field = [[0, 0, 0], [1, 30, 0], [1, 0, 9], [0, 0, 0]].concat();
+    let field = [
+        [0, 0, 0, 1_000],
+        [1, 30, 0, 1_000],
+        [1, 0, 9, 1_000],
+        [0, 0, 0, 1_000],
+    ]
+    .concat();
     sheet.runs(list(&year, &field.repeat(300), 8_400, tiny));
     sheet.runs(list(&rows(COLD, 1_200), &CROP, 7, tiny));
     sheet.runs(list(&year.repeat(300), &field.repeat(300), 8_401, tiny));
@@ -1182,8 +1574,8 @@ fn list_rows(sheet: &mut Sheet) {
     for count in [4_804, 4_801, 4_799] {
         sheet.refused_at(3, 0, list(&rows(COLD, 1_201)[..count], &CROP, 7, tiny));
     }
-    for count in [3_603, 3_601, 3_599] {
-        sheet.refused_at(3, 0, list(&COLD, &rows(BARE, 1_201)[..count], 8_407, tiny));
+    for count in [4_804, 4_801, 4_799] {
+        sheet.refused_at(3, 0, list(&COLD, &rows([0; 4], 1_201)[..count], 8, tiny));
     }
 }
 
@@ -1196,11 +1588,11 @@ fn list_output(sheet: &mut Sheet) {
         for output in [exact, exact + 1, exact + 6, exact + 7, exact + 20] {
             sheet.runs(list(&MAY, &land, output, STATE));
         }
-        for output in [exact - 1, exact - 7, 0, count * 3] {
+        for output in [exact - 1, exact - 7, 0, count * 4] {
             sheet.refused_at(8, 0, list(&MAY, &land, output, STATE));
         }
         // Against all land rows, even where month 1 would be refused.
-        let land = [&[2, 0, 0], &land[3..]].concat();
+        let land = [&[2, 0, 0, 1_000], &land[4..]].concat();
         sheet.refused_at(8, 0, list(&MAY, &land, exact - 1, STATE));
         sheet.refused_at(15, 1, list(&MAY, &land, exact, STATE));
     }
@@ -1236,14 +1628,18 @@ fn list_outside(sheet: &mut Sheet) {
         let state = changed(STATE, changes);
         sheet.refused_at(number, 0, list(&MAY, &land, 14, state));
         // Against a month's fault: the state comes first.
-        sheet.refused_at(number, 0, list(&[501, -1, -1, 2], &[2, -1, -1], 7, state));
+        sheet.refused_at(
+            number,
+            0,
+            list(&[501, -1, -1, 2], &[2, -1, -1, -1], 7, state),
+        );
         // Against 8: 4 to 7 come first, 10 doesn't.
         let first = if number == 10 { 8 } else { number };
         sheet.refused_at(first, 0, list(&MAY, &land, 13, state));
         // Against 3: that comes first.
         sheet.refused_at(3, 0, list(&MAY[..3], &land, 14, state));
     }
-    sheet.refused_at(3, 0, list(&MAY, &land[..5], 0, STATE));
+    sheet.refused_at(3, 0, list(&MAY, &land[..7], 0, STATE));
     // D at M and CO2 at its bound run.
     sheet.runs(list(&MAY, &land, 14, changed(STATE, &[(DEFICIT, limit)])));
     let active = 1_533 + 44_852 + 6_671 + 258_576;
@@ -1252,12 +1648,13 @@ fn list_outside(sheet: &mut Sheet) {
 }
 
 /// Months refused at 1, in the middle and at the end: the place, the state after the months
-/// before it and their rows. 12 at place 1 and later. The earliest month wins, then the lowest number.
+/// before it and their rows. 12 at place 1 and later. The earliest month wins, then the number that
+/// is asked first.
 fn list_months(sheet: &mut Sheet) {
     sheet.group("L: months refused at 1, in the middle, at the end; 12 at 1 and later");
     let weather = rows(MAY, 5);
     let land = rows(CROP, 5);
-    let faults: [(u64, Option<WeatherRow>, Option<LandRow>); 22] = [
+    let faults: [(u64, Option<WeatherRow>, Option<LandRow>); 26] = [
         (13, Some([-401, 0, 0, 0]), None),
         (13, Some([501, 0, 0, 0]), None),
         (13, Some([i64::MIN; 4]), None),
@@ -1266,20 +1663,24 @@ fn list_months(sheet: &mut Sheet) {
         (14, Some([93, 0, -1, 0]), None),
         (14, Some([93, 0, 20_001, 0]), None),
         (14, Some([93, i64::MIN, i64::MAX, 0]), None),
-        (14, Some([93, 0, 20_001, 2]), Some([2, -1, -1])),
+        (14, Some([93, 0, 20_001, 2]), Some([2, -1, -1, -1])),
         (19, Some([93, 0, 0, -1]), None),
         (19, Some([93, 0, 0, 2]), None),
         (19, Some([93, 0, 0, i64::MIN]), None),
-        (19, Some([93, 0, 0, i64::MAX]), Some([2, 0, 0])),
-        (19, Some([93, 0, 0, 2]), Some([-1, -1, -1])),
-        (15, None, Some([-1, 0, 0])),
-        (15, None, Some([2, 0, 0])),
-        (16, None, Some([0, -1, 0])),
-        (16, None, Some([1, 100_000_001, 0])),
-        (16, None, Some([0, 0, i64::MIN])),
-        (16, None, Some([0, i64::MAX, i64::MAX])),
-        (13, Some([501, -1, 0, 2]), Some([2, -1, -1])),
-        (15, None, Some([2, -1, -1])),
+        (19, Some([93, 0, 0, i64::MAX]), Some([2, 0, 0, 1_000])),
+        (19, Some([93, 0, 0, 2]), Some([-1, -1, -1, -1])),
+        (15, None, Some([-1, 0, 0, 1_000])),
+        (15, None, Some([2, 0, 0, 1_000])),
+        (16, None, Some([0, -1, 0, 1_000])),
+        (16, None, Some([1, 100_000_001, 0, 1_000])),
+        (16, None, Some([0, 0, i64::MIN, 1_000])),
+        (16, None, Some([0, i64::MAX, i64::MAX, 1_000])),
+        (16, None, Some([0, 0, -1, 2_001])),
+        (21, None, Some([0, 0, 0, -1])),
+        (21, None, Some([1, 5, 0, 2_001])),
+        (21, None, Some([1, 0, 100_000_000, i64::MIN])),
+        (13, Some([501, -1, 0, 2]), Some([2, -1, -1, -1])),
+        (15, None, Some([2, -1, -1, -1])),
     ];
     for (index, (number, sky, field)) in faults.iter().enumerate() {
         for place in [1, 3, 5] {
@@ -1288,7 +1689,7 @@ fn list_months(sheet: &mut Sheet) {
                 weather[place * 4 - 4..place * 4].copy_from_slice(row);
             }
             if let Some(row) = field {
-                land[place * 3 - 3..place * 3].copy_from_slice(row);
+                land[place * 4 - 4..place * 4].copy_from_slice(row);
             }
             // A lower number in a later month doesn't matter.
             if index % 2 == 1 && place < 5 {
@@ -1299,7 +1700,7 @@ fn list_months(sheet: &mut Sheet) {
         }
     }
     // 17: in frost the pools only grow, by 100,000,000 a month.
-    let grow = rows([0, 60_000_000, 40_000_000], 5);
+    let grow = rows([0, 60_000_000, 40_000_000, 1_000], 5);
     for (active, place) in [(950_000_000, 1), (700_000_001, 3), (500_000_001, 5)] {
         let state = changed(fresh(), &pools([active, 0, 0, 0]));
         sheet.refused_at(17, place, list(&COLD, &grow, 35, state));
@@ -1316,23 +1717,23 @@ fn list_months(sheet: &mut Sheet) {
         let state = changed(STATE, &[(MONTHS, months)]);
         sheet.refused_at(12, place, list(&MAY, &land, 49, state));
         // 12 before 13 to 16 of its own month, an earlier month's fault before 12.
-        let row = place as usize * 3;
+        let row = place as usize * 4;
         let mut faulty = land.clone();
-        faulty[row - 3..row].copy_from_slice(&[2, -1, -1]);
+        faulty[row - 4..row].copy_from_slice(&[2, -1, -1, -1]);
         sheet.refused_at(12, place, list(&MAY, &faulty, 49, state));
         if place > 1 {
-            faulty[row - 6] = 2;
+            faulty[row - 8] = 2;
             sheet.refused_at(15, place - 1, list(&MAY, &faulty, 49, state));
         }
         // Only as many months as are left.
-        let left = (place as usize - 1) * 3;
+        let left = (place as usize - 1) * 4;
         if left > 0 {
             sheet.runs(list(&MAY, &land[..left], 49, state));
         }
     }
     sheet.runs(list(
         &MAY,
-        &land[..15],
+        &land[..20],
         35,
         changed(STATE, &[(MONTHS, 119_995)]),
     ));
@@ -1453,12 +1854,12 @@ fn list_kept(sheet: &mut Sheet) {
         // Refused at months 1, 2 and 4: none, 1 and 3 are kept.
         for place in [1, 2, 4] {
             let mut land = rows(CROP, 5);
-            land[place * 3 - 3] = 2;
+            land[place * 4 - 4] = 2;
             sheet.refused_at(15, place as u64, list(&COLD, &land, 35, state));
             assert_eq!(sheet.answer()[2 + KEPT], (kept + place as u64 - 1).min(24));
         }
         sheet.refused_at(8, 0, list(&COLD, &CROP, 6, state));
-        sheet.refused_at(3, 0, list(&COLD, &CROP[..2], 7, state));
+        sheet.refused_at(3, 0, list(&COLD, &CROP[..3], 7, state));
     }
     for kept in [25, 26, 1 << 32] {
         let state = changed(STATE, &[(KEPT, kept)]);
@@ -1467,12 +1868,108 @@ fn list_kept(sheet: &mut Sheet) {
         // 10 before 12, and before a fault of the first month.
         let late = changed(state, &[(MONTHS, 120_000)]);
         sheet.refused_at(10, 0, list(&COLD, &CROP, 7, late));
-        sheet.refused_at(10, 0, list(&COLD, &[2, 0, 0], 7, state));
+        sheet.refused_at(10, 0, list(&COLD, &[2, 0, 0, 1_000], 7, state));
         sheet.refused_at(
             7,
             0,
             list(&COLD, &CROP, 6, changed(state, &[(INERT, CEILING + 1)])),
         );
+    }
+}
+
+/// An answer without the modern grams of its state.
+fn carbon_only(call: &Call, answer: &[u64]) -> Vec<u64> {
+    let at = call.state_at().expect("a state");
+    let mut answer = answer[..].to_vec();
+    answer[at + MODERN..at + KEPT].fill(0);
+    for place in answer[at + PLACES..at + STATE_NUMBERS].chunks_mut(OWN_NUMBERS) {
+        place[MODERN..].fill(0);
+    }
+    answer
+}
+
+/// Calls that run, alike but for activities and modern grams: the same carbon.
+fn same_carbon(sheet: &mut Sheet, calls: &[Call]) {
+    let mut wanted = None;
+    for call in calls {
+        sheet.runs(call.clone());
+        let carbon = carbon_only(call, sheet.answer());
+        assert_eq!(wanted.get_or_insert_with(|| carbon.clone()), &carbon);
+    }
+}
+
+/// Each land row has its own activity, and carbon doesn't depend on any.
+fn list_activity(sheet: &mut Sheet) {
+    sheet.group("L: lists alike but for activities and modern grams: the same rows and carbon");
+    let skies = [MAY, [160, 340, 1_030, 1], [34, 740, 80, 0]].concat();
+    let ways: [fn(usize) -> i64; 5] = [
+        |_| 1_000,
+        |_| 0,
+        |_| 2_000,
+        |row| [2_000, 0, 1_999][row % 3],
+        |row| row as i64 * 137 % 2_001,
+    ];
+    for months in [1, 5, 14] {
+        let lists: Vec<Call> = (0..ways.len())
+            .map(|index| {
+                let land: Vec<i64> = (0..months)
+                    .flat_map(|row| [(row % 2) as i64, 610, 990, ways[index](row)])
+                    .collect();
+                let grams = [0, 1, 900, 70_000, 5].map(|grams| [grams; 4])[index];
+                let state = changed(STATE, &modern(grams));
+                list(&skies, &land, months * 7 + 1, state)
+            })
+            .collect();
+        same_carbon(sheet, &lists);
+    }
+    sheet.group("L: 21 at months 1, 3 and 5: the months before it ran; an earlier fault wins");
+    for place in [1, 3, 5] {
+        for activity in BAD_ACTIVITIES {
+            let mut land = rows(CROP, 5);
+            land[place * 4 - 1] = activity;
+            sheet.refused_at(21, place as u64, list(&MAY, &land, 35, STATE));
+            if place < 5 {
+                // A lower number in a later month doesn't matter, 16 of its own does.
+                land[16] = 2;
+                sheet.refused_at(21, place as u64, list(&MAY, &land, 35, STATE));
+                land[place * 4 - 2] = -1;
+                sheet.refused_at(16, place as u64, list(&MAY, &land, 35, STATE));
+            }
+        }
+        // 17 of an earlier month, then of the same.
+        let mut grow = rows([0, 60_000_000, 40_000_000, 1_500], 5);
+        grow[place * 4 - 1] = 2_001;
+        let state = changed(fresh(), &pools([700_000_001, 0, 0, 0]));
+        let (number, at) = if place < 5 { (21, place) } else { (17, 3) };
+        sheet.refused_at(number, at as u64, list(&COLD, &grow, 35, state));
+    }
+}
+
+/// A list starts at the limit of modern grams, and its months never pass it.
+fn list_modern_limit(sheet: &mut Sheet) {
+    sheet.group("L: modern grams at 10's limit run with the most that months bring; 10 after 8");
+    let most = rows([0, 100_000_000, 100_000_000, 2_000], 3);
+    for months in [0, 119_996] {
+        for pool in [0, 3] {
+            let mut grams = [0; 4];
+            grams[pool] = CEILING + MODERN_A_MONTH * months;
+            let state = changed(fresh(), &[&modern(grams)[..], &[(MONTHS, months)]].concat());
+            sheet.runs(list(&COLD, &most, 21, state));
+            let over = changed(state, &[(MODERN + 1, 1)]);
+            sheet.refused_at(10, 0, list(&COLD, &most, 21, over));
+            sheet.refused_at(8, 0, list(&COLD, &most, 20, over));
+            sheet.refused_at(3, 0, list(&COLD, &most[..11], 21, over));
+            // Before a fault of the first month, also its activity.
+            for row in [[2, 0, 0, 0], [0, 0, 0, -1]] {
+                sheet.refused_at(10, 0, list(&COLD, &row, 7, over));
+            }
+            let deep = changed(over, &[(DEPTH, 101)]);
+            sheet.refused_at(5, 0, list(&COLD, &most, 20, deep));
+        }
+    }
+    for grams in [[u64::MAX, 1, 0, 0], [1 << 62; 4]] {
+        let state = changed(STATE, &modern(grams));
+        sheet.refused_at(10, 0, list(&COLD, &BARE, 7, state));
     }
 }
 
@@ -1486,6 +1983,7 @@ fn drawn_state(draw: &mut Draw, largest: u64) -> StateNumbers {
         state[POOLS + pool] = draw.below(largest + 1);
     }
     state[DEFICIT] = draw.below(deficit_limit(&state) + 1);
+    weigh(draw, &mut state);
     state
 }
 
@@ -1513,9 +2011,32 @@ fn drawn_land(draw: &mut Draw, count: usize, largest: i64) -> Vec<i64> {
                 }
             };
             let (plant, manure) = (addition(), addition());
-            [draw.between(0, 1), plant, manure]
+            [draw.between(0, 1), plant, manure, drawn_activity(draw)]
         })
         .collect()
+}
+
+/// An activity that nothing refuses: mostly 1000, else an end or any.
+fn drawn_activity(draw: &mut Draw) -> i64 {
+    match draw.below(8) {
+        0 => [0, 1, 1_999, 2_000][draw.below(4) as usize],
+        1..=3 => draw.between(0, 2_000),
+        _ => 1_000,
+    }
+}
+
+/// Modern grams of pools, each of an activity up to 1.2.
+fn drawn_modern(draw: &mut Draw, pools: &[u64]) -> [u64; 4] {
+    std::array::from_fn(|pool| match draw.below(4) {
+        0 => pools[pool],
+        _ => pools[pool] * draw.below(1_201) / 1_000,
+    })
+}
+
+/// Puts drawn modern grams beside a state's pools.
+fn weigh(draw: &mut Draw, state: &mut StateNumbers) {
+    let modern = drawn_modern(draw, &state[POOLS..INERT]);
+    state[MODERN..KEPT].copy_from_slice(&modern);
 }
 
 // ---- S: spin-up ----
@@ -1539,17 +2060,17 @@ fn first_month(plant: i64) -> Vec<i64> {
 /// Faults outside the months: 3, 4 to 7, 9, 10 in this order, place 0.
 fn spin_outside(sheet: &mut Sheet) {
     sheet.group(
-        "S: 48 and 36 numbers or not, state faults, years 0 and 10,001; the order 3, 4 to 7, 9, 10",
+        "S: 48 numbers each or not, state faults, years 0 and 10,001; the order 3, 4 to 7, 9, 10",
     );
     let (weather, land) = (rows(COLD, 12), rows(BARE, 12));
     for count in [0, 4, 12, 36, 44, 47, 49, 52, 96] {
         sheet.refused_at(3, 0, spin(&rows(COLD, 24)[..count], &land, 5, STATE));
     }
-    for count in [0, 3, 12, 33, 35, 37, 39, 48, 72] {
+    for count in [0, 3, 12, 36, 44, 45, 47, 49, 52, 96] {
         sheet.refused_at(3, 0, spin(&weather, &rows(BARE, 24)[..count], 5, STATE));
     }
-    // Three numbers a weather row and four a land row.
-    sheet.refused_at(3, 0, spin(&rows(COLD, 9), &rows(BARE, 16), 5, STATE));
+    // Three numbers a row, in both.
+    sheet.refused_at(3, 0, spin(&rows(COLD, 9), &rows(BARE, 9), 5, STATE));
     for years in [0, 10_001, 10_002, u64::MAX, 1 << 63, (1 << 32) + 1] {
         sheet.refused_at(9, 0, spin(&weather, &land, years, STATE));
     }
@@ -1573,13 +2094,13 @@ fn spin_outside(sheet: &mut Sheet) {
         let state = changed(STATE, changes);
         sheet.refused_at(number, 0, spin(&weather, &land, 5, state));
         // Against a month's fault, 9 and 3.
-        let faulty = [&[2, -1, -1], &land[3..]].concat();
+        let faulty = [&[2, -1, -1, 1_000], &land[4..]].concat();
         sheet.refused_at(number, 0, spin(&weather, &faulty, 5, state));
         let first = if number == 10 { 9 } else { number };
         for years in [0, 10_001] {
             sheet.refused_at(first, 0, spin(&weather, &land, years, state));
         }
-        sheet.refused_at(3, 0, spin(&weather, &land[..33], 0, state));
+        sheet.refused_at(3, 0, spin(&weather, &land[..44], 0, state));
     }
 }
 
@@ -1620,11 +2141,11 @@ fn spin_years(sheet: &mut Sheet) {
     );
     // Only the year's end counts: a gain spread over the months.
     let spread: Vec<i64> = (0..12)
-        .flat_map(|j| [1, 40, 43 + i64::from(j < 4)])
+        .flat_map(|j| [1, 40, 43 + i64::from(j < 4), 1_000])
         .collect();
     settled(sheet, 1, 1, spin(&weather, &spread, 9, STATE));
     let mut more = spread.clone();
-    more[35] += 1;
+    more[11 * 4 + 2] += 1;
     settled(sheet, 0, 9, spin(&weather, &more, 9, STATE));
     // One warm month decays, eleven are frozen: the year's fall is its CO2 less the plant, which
     // comes after decay. Falls of 1,000 and 1,001.
@@ -1692,6 +2213,8 @@ fn spin_places(sheet: &mut Sheet) {
             (15, 0, i64::MIN),
             (16, 1, -1),
             (16, 2, i64::MAX),
+            (21, 3, 2_001),
+            (21, 3, i64::MIN),
         ] {
             let mut land = rows(CROP, 12);
             land[(place - 1) * LAND_NUMBERS + at] = value;
@@ -1708,13 +2231,13 @@ fn spin_places(sheet: &mut Sheet) {
         (100_000_000, 12, 120),
     ] {
         let mut land = rows(BARE, 12);
-        land[month * 3 - 2] = 100_000_000;
+        land[month * 4 - 3] = 100_000_000;
         let state = changed(fresh(), &pools([start, 0, 0, 0]));
         sheet.refused_at(17, place, spin(&weather, &land, 10_000, state));
     }
     // One year fewer: not refused.
     let mut land = rows(BARE, 12);
-    land[13] = 100_000_000;
+    land[17] = 100_000_000;
     let state = changed(fresh(), &pools([600_000_001, 0, 0, 0]));
     sheet.runs(spin(&weather, &land, 3, state));
     // 12: from 120,000 months done at place 1, from 119,990 at 11, after whole years at 13 and 25.
@@ -1739,7 +2262,8 @@ fn spin_places(sheet: &mut Sheet) {
     sheet.refused_at(12, 120_000, spin(&weather, &land, 10_000, one));
 }
 
-/// Spin-ups with decay, drawn until they are fixed: settled in the first and in later years, and not.
+/// Spin-ups with decay, drawn until they are fixed: settled in the first and in later years, and
+/// not.
 fn spin_drawn(sheet: &mut Sheet) {
     sheet.group("S: drawn spin-ups with decay, settled in the first or a later year, or unsettled");
     drawn_spin_ups(sheet, 61, 10, |weather| weather);
@@ -1774,7 +2298,7 @@ fn spin_sources(sheet: &mut Sheet) {
     drawn_spin_ups(sheet, 79, 4, by_turns);
     sheet
         .group("S: 4 tenths of the open pan and 3 of evapotranspiration: the same years and state");
-    let tiny = changed(fresh(), &pools([900, 800, 700, 600]));
+    let tiny = changed(fresh(), &weighed([900, 800, 700, 600]));
     for plant in [0, 400, 3_000] {
         let land = first_month(plant);
         sheet.alike(&alike_skies(12).map(|weather| spin(&weather, &land, 3, tiny)));
@@ -1794,9 +2318,9 @@ fn spin_kept(sheet: &mut Sheet) {
         }
         let full = changed(state, &pools([950_000_000, 0, 0, 0]));
         let mut wrong = first_month(0);
-        wrong[3] = 2;
+        wrong[4] = 2;
         for (number, place, call) in [
-            (3, 0, spin(&weather, &wrong[3..], 2, state)),
+            (3, 0, spin(&weather, &wrong[4..], 2, state)),
             (9, 0, spin(&weather, &first_month(0), 0, state)),
             (15, 2, spin(&weather, &wrong, 2, state)),
             (17, 13, spin(&weather, &first_month(50_000_000), 2, full)),
@@ -1818,6 +2342,59 @@ fn spin_kept(sheet: &mut Sheet) {
     }
 }
 
+/// Modern grams in spin-ups: they don't settle a year, and a refusal leaves them.
+fn spin_modern(sheet: &mut Sheet) {
+    sheet.group("S: alike but for activities and modern grams: the same years and carbon");
+    let weather = [&MAY[..], &rows(COLD, 11)].concat();
+    let tiny = changed(fresh(), &weighed([900, 800, 700, 600]));
+    for plant in [0, 700, 3_000] {
+        let spins: Vec<Call> = [(1_000, 900), (0, 0), (2_000, 90_000), (1_999, 5)]
+            .into_iter()
+            .map(|(activity, grams)| {
+                let mut land = first_month(plant);
+                land[3] = activity;
+                spin(&weather, &land, 4, changed(tiny, &modern([grams; 4])))
+            })
+            .collect();
+        same_carbon(sheet, &spins);
+    }
+    // Modern grams that rise by far more than 1,000 a year, and that only fall.
+    let cold = rows(COLD, 12);
+    let mut land = first_month(1_000);
+    land[3] = 2_000;
+    for grams in [0, 300, 1_200_000_000] {
+        sheet.runs(spin(&cold, &land, 5, changed(STATE, &modern([grams; 4]))));
+        assert_eq!(sheet.answer()[1..3], [1, 1]);
+    }
+    sheet.group("S: 21 at its month counted over all years; 10 for modern grams after 9");
+    for place in [1, 5, 12] {
+        for activity in BAD_ACTIVITIES {
+            let mut land = first_month(5_000);
+            land[place * 4 - 1] = activity;
+            sheet.refused_at(21, place as u64, spin(&cold, &land, 3, STATE));
+        }
+    }
+    let mut land = rows(BARE, 12);
+    land[17] = 100_000_000;
+    land[31] = 2_001;
+    let state = changed(fresh(), &pools([900_000_001, 0, 0, 0]));
+    sheet.refused_at(17, 5, spin(&cold, &land, 9, state));
+    sheet.refused_at(21, 8, spin(&cold, &land, 9, fresh()));
+    let over = changed(STATE, &modern([u64::MAX, 1, 0, 0]));
+    sheet.refused_at(10, 0, spin(&cold, &land, 9, over));
+    sheet.refused_at(9, 0, spin(&cold, &land, 0, over));
+    sheet.refused_at(3, 0, spin(&cold, &land[..36], 9, over));
+    for (months, pool) in [(0, 1), (10, 2)] {
+        let mut grams = [0; 4];
+        grams[pool] = CEILING + MODERN_A_MONTH * months;
+        let state = changed(fresh(), &[&modern(grams)[..], &[(MONTHS, months)]].concat());
+        sheet.runs(spin(&cold, &first_month(0), 9, state));
+        grams[(pool + 1) % 4] = 1;
+        let over = changed(state, &modern(grams));
+        sheet.refused_at(10, 0, spin(&cold, &first_month(0), 9, over));
+    }
+}
+
 // ---- B: taking a month back ----
 
 /// A taking-back from this state, place p holding base + p.
@@ -1831,7 +2408,9 @@ fn back(state: StateNumbers, base: OwnNumbers) -> Call {
 }
 
 /// A base that tells the numbers of a kept state apart, and the places.
-const BASE: OwnNumbers = [100, 200, 300, 400, 500, 600, 700, 800, 900, 1_000, 1_100];
+const BASE: OwnNumbers = [
+    100, 200, 300, 400, 500, 600, 700, 800, 900, 1_000, 1_100, 1_200, 1_300, 1_400, 1_500,
+];
 
 /// A taking-back that restores place p.
 fn restores(sheet: &mut Sheet, place: u64, state: StateNumbers, base: OwnNumbers) {
@@ -1900,6 +2479,10 @@ fn back_refused(sheet: &mut Sheet) {
             u64::MAX,
             120_001,
             u64::MAX,
+            u64::MAX,
+            1,
+            0,
+            1 << 63,
         ],
         [
             1_001,
@@ -1913,6 +2496,10 @@ fn back_refused(sheet: &mut Sheet) {
             1 << 62,
             u64::MAX,
             1 << 63,
+            48_001_000_000_001,
+            0,
+            u64::MAX,
+            1,
         ],
     ];
     for (number, kept) in [(20, 0), (10, 25), (10, 26), (10, 48)] {
@@ -1947,6 +2534,9 @@ fn back_unchecked(sheet: &mut Sheet) {
         (DEFICIT, u64::MAX),
         (MONTHS, 120_001),
         (CO2, u64::MAX),
+        (MODERN, u64::MAX),
+        (MODERN + 1, CEILING + 4_000_000_001),
+        (MODERN + 3, 1 << 63),
     ] {
         let state = changed(STATE, &[(index, value), (KEPT, 3)]);
         let place = (state[MONTHS] % 24 + 23) % 24;
@@ -2014,18 +2604,18 @@ fn booked(number: u64, entries: EntryNumbers) -> Act {
 /// The months of a farm's year, in turn.
 fn farm(number: u64) -> Act {
     const YEAR: [EntryNumbers; 12] = [
-        [34, 740, 80, 0, 0, 0, 0],
-        [36, 590, 100, 0, 0, 0, 0],
-        [51, 620, 270, 0, 1, 0, 0],
-        [73, 510, 370, 1, 1, 120, 0],
-        [110, 520, 830, 0, 1, 340, 0],
-        [139, 570, 990, 0, 1, 560, 0],
-        [160, 340, 770, 1, 1, 1_780, 0],
-        [160, 550, 910, 0, 1, 0, 0],
-        [133, 580, 690, 0, 0, 0, 2_400],
-        [102, 560, 255, 1, 0, 0, 0],
-        [61, 750, 160, 0, 0, 0, 0],
-        [46, 710, 80, 0, 0, 0, 0],
+        [34, 740, 80, 0, 0, 0, 0, 1_000],
+        [36, 590, 100, 0, 0, 0, 0, 1_000],
+        [51, 620, 270, 0, 1, 0, 0, 1_000],
+        [73, 510, 370, 1, 1, 120, 0, 1_036],
+        [110, 520, 830, 0, 1, 340, 0, 987],
+        [139, 570, 990, 0, 1, 560, 0, 1_250],
+        [160, 340, 770, 1, 1, 1_780, 0, 1_821],
+        [160, 550, 910, 0, 1, 0, 0, 1_000],
+        [133, 580, 690, 0, 0, 0, 2_400, 650],
+        [102, 560, 255, 1, 0, 0, 0, 1_000],
+        [61, 750, 160, 0, 0, 0, 0, 1_000],
+        [46, 710, 80, 0, 0, 0, 0, 1_000],
     ];
     booked(number, YEAR[(number as usize - 1) % 12])
 }
@@ -2048,7 +2638,7 @@ fn manured(number: u64, manure: i64) -> Act {
 fn history_late_slip(sheet: &mut Sheet) {
     sheet.group(
         "H: February's slip after March, both taken back and booked afresh; then the same with the \
-         slip in time: all 276 numbers are equal, as the places taken back are written again",
+         slip in time: all 376 numbers are equal, as the places taken back are written again",
     );
     let slip = 18_500;
     for before in [0, 1, 25, 37] {
@@ -2069,8 +2659,9 @@ fn history_late_slip(sheet: &mut Sheet) {
         assert_eq!(late[KEPT], (before + 2).min(24));
     }
     sheet.group(
-        "H: the slip as a month of its own is 11 under February's number; months taken back and not \
-         booked again: the state is that of the months that remain, kept count and places differ",
+        "H: the slip as a month of its own is 11 under February's number; months taken back and \
+         not booked again: the state is that of the months that remain, kept count and places \
+         differ",
     );
     let run = farmed(1, 4);
     told(sheet, &[&run[..], &[manured(2, slip)]].concat(), &[(5, 11)]);
@@ -2168,6 +2759,7 @@ fn history_refused_months(sheet: &mut Sheet) {
         (15, COVER, -1),
         (16, PLANT, 100_000_001),
         (16, MANURE, -1),
+        (21, ACTIVITY, 2_001),
     ];
     for (number, place, value) in wrong {
         let refused = booked(2, changed(MILD, &[(place, value)]));
@@ -2188,14 +2780,14 @@ fn history_refused_months(sheet: &mut Sheet) {
     told(sheet, &acts, &[(2, 11), (3, 11), (6, 11), (8, 20)]);
     // 17, and all of them among 26 months.
     let full = changed(SOIL, &[(POOLS, 0), (POOLS + 1, CEILING - 400_000)]);
-    let gram = booked(2, [-60, 0, 0, 0, 0, 100_000_000, 0]);
+    let gram = booked(2, [-60, 0, 0, 0, 0, 100_000_000, 0, 1_000]);
     let frost = |number: u64| booked(number, FROST);
     let acts = [frost(1), gram, frost(2), BACK, gram, BACK, BACK];
     told_on(sheet, full, &acts, &[(2, 17), (5, 17), (7, 20)]);
     let mut acts = Vec::new();
     let mut refused = Vec::new();
     for month in 1..=26 {
-        let (number, place, value) = wrong[month % 7];
+        let (number, place, value) = wrong[month % 8];
         refused.push((acts.len() + 1, number));
         acts.push(booked(month as u64, changed(MILD, &[(place, value)])));
         acts.push(farm(month as u64));
@@ -2217,14 +2809,14 @@ fn history_lists(sheet: &mut Sheet) {
         assert_eq!(end(sheet), by_list);
     }
     // In frost 100,000,000 g a month: 17 at month j.
-    let grow = [-60, 0, 0, 0, 0, 60_000_000, 40_000_000];
+    let grow = [-60, 0, 0, 0, 0, 60_000_000, 40_000_000, 2_000];
     for (active, ran) in [(950_000_000, 0), (900_000_000, 1), (700_000_000, 3)] {
         let soil = changed(SOIL, &pools([active, 0, 0, 0]));
         let acts = [vec![listed(5, grow)], vec![BACK; ran + 1]];
         told_on(sheet, soil, &acts.concat(), &[(1, 17), (ran + 2, 20)]);
         // After another month, and again after what was taken back.
         let acts = [
-            vec![booked(1, [-60, 0, 0, 0, 0, 0, 0]), listed(60, grow)],
+            vec![booked(1, [-60, 0, 0, 0, 0, 0, 0, 1_000]), listed(60, grow)],
             vec![BACK; ran],
             vec![listed(60, grow), BACK, listed(0, grow)],
         ];
@@ -2242,7 +2834,7 @@ fn history_lists(sheet: &mut Sheet) {
     told(sheet, &acts, &[(2, 3), (3, 15), (5, 20)]);
     // 12: 119,988 months by spin-up, then a list refused at its 13th.
     let empty = changed(SOIL, &pools([0; 4]));
-    let year = [-60, 0, 0, 0, 0, 100, 0];
+    let year = [-60, 0, 0, 0, 0, 100, 0, 1_000];
     let acts = [
         vec![spun(9_999, year), listed(20, year), booked(120_001, year)],
         vec![BACK, booked(120_000, FROST)],
@@ -2254,8 +2846,8 @@ fn history_lists(sheet: &mut Sheet) {
 /// A spin-up ends with none kept unless it is refused.
 fn history_spin_ups(sheet: &mut Sheet) {
     sheet.group("H: a spin-up clears the kept count, settled or not; refused it leaves all");
-    let still = [-60, 0, 0, 0, 0, 0, 0];
-    let grows = [-60, 0, 0, 0, 0, 100, 0];
+    let still = [-60, 0, 0, 0, 0, 0, 0, 1_000];
+    let grows = [-60, 0, 0, 0, 0, 100, 0, 0];
     told(sheet, &farmed(1, 30), &[]);
     let before = end(sheet).to_vec();
     // Settled in the first year, unsettled after three.
@@ -2275,7 +2867,7 @@ fn history_spin_ups(sheet: &mut Sheet) {
         assert_eq!(end(sheet)[PLACES..], before[PLACES..]);
     }
     let wrong = changed(still, &[(EVAPORATION, -1)]);
-    let fills = [-60, 0, 0, 0, 0, 100_000_000, 0];
+    let fills = [-60, 0, 0, 0, 0, 100_000_000, 0, 1_000];
     for (number, act) in [
         (9, spun(0, still)),
         (9, spun(10_001, still)),
@@ -2294,6 +2886,55 @@ fn history_spin_ups(sheet: &mut Sheet) {
     ]
     .concat();
     told(sheet, &acts, &[(10, 20)]);
+}
+
+/// Modern grams are kept and come back.
+fn history_modern(sheet: &mut Sheet) {
+    sheet.group("H: modern grams come back; months booked afresh with another activity");
+    let with = |number: u64, activity: i64| {
+        let Act::Month { entries, .. } = manured(number, 18_500) else {
+            unreachable!()
+        };
+        booked(number, changed(entries, &[(ACTIVITY, activity)]))
+    };
+    for before in [0, 3, 25] {
+        let number = before + 1;
+        let run = farmed(1, before);
+        let mut ends = Vec::new();
+        for activity in [0, 1_000, 2_000] {
+            told(sheet, &[&run[..], &[with(number, activity)]].concat(), &[]);
+            let alone = end(sheet).to_vec();
+            // Another activity first, taken back; and a faulty one, which keeps nothing.
+            let acts = [
+                &run[..],
+                &[with(number, 1_500), BACK, with(number, 2_001)],
+                &[with(number, activity)],
+            ];
+            let refused = before as usize + 3;
+            told(sheet, &acts.concat(), &[(refused, 21)]);
+            assert_eq!(end(sheet), alone);
+            ends.push(alone);
+        }
+        // The activity shows in the modern grams and nowhere else.
+        for other in &ends[1..] {
+            assert_eq!(other[..MODERN], ends[0][..MODERN]);
+            assert_eq!(other[KEPT..], ends[0][KEPT..]);
+            assert_ne!(other[MODERN..KEPT], ends[0][MODERN..KEPT]);
+        }
+    }
+    // By a list and by a spin-up, refused for an activity or not.
+    let fallow = changed(MILD, &[(ACTIVITY, 0)]);
+    let wrong = changed(MILD, &[(ACTIVITY, -1)]);
+    let acts = [
+        vec![farm(1), listed(5, fallow), listed(2, wrong), spun(1, wrong)],
+        vec![BACK; 5],
+    ];
+    told(sheet, &acts.concat(), &[(3, 21), (4, 21)]);
+    let taken = end(sheet).to_vec();
+    told(sheet, &[farm(1)], &[]);
+    assert_eq!(end(sheet)[..OWN_NUMBERS], taken[..OWN_NUMBERS]);
+    let acts = [farm(1), spun(1, fallow), farm(14), BACK, BACK];
+    told(sheet, &acts, &[(5, 20)]);
 }
 
 /// Drawn histories of all kinds of acts, refused ones among them.
@@ -2317,7 +2958,7 @@ fn drawn_acts(draw: &mut Draw, soil: SoilNumbers) -> Vec<Act> {
         let mut entries = drawn_entries(draw);
         entries[SOURCE] = draw.between(0, 1);
         if draw.below(10) == 0 {
-            entries[draw.below(7) as usize] = -401;
+            entries[draw.below(8) as usize] = -401;
         }
         let next = state[MONTHS] + 1;
         let more = match draw.below(20) {
@@ -2336,6 +2977,366 @@ fn drawn_acts(draw: &mut Draw, soil: SoilNumbers) -> Vec<Act> {
     }
     acts.truncate(MOST_ACTS);
     acts
+}
+
+// ---- R: radiocarbon reports ----
+
+fn report(state: StateNumbers, pool: u64) -> Call {
+    Call::Report { state, pool }
+}
+
+/// Whether a report has an age.
+const DATED: u64 = 0;
+const OLDER: u64 = 1;
+const NEWER: u64 = 2;
+
+/// A report that says just this: delta, whether there is an age, the age.
+fn says(sheet: &mut Sheet, state: StateNumbers, pool: u64, wanted: (i64, u64, u64)) {
+    sheet.runs(report(state, pool));
+    let (delta, dated, age) = wanted;
+    assert_eq!(sheet.answer()[1..], [delta as u64, dated, age], "{pool}");
+}
+
+/// A state with these grams and modern grams in one active pool, others in the rest.
+fn in_pool(pool: u64, carbon: u64, grams: u64) -> StateNumbers {
+    let mut state = changed(STATE, &weighed([3, 1, 4, 1]));
+    if carbon >= CEILING - 9 {
+        state = changed(state, &weighed([0; 4]));
+    }
+    (state[MONTHS], state[CO2]) = (120_000, 0);
+    (state[POOLS + pool as usize], state[MODERN + pool as usize]) = (carbon, grams);
+    state
+}
+
+/// Every pool, and numbers that are none.
+fn report_pools(sheet: &mut Sheet) {
+    sheet.group("R: pools 0 to 3, IOM 4 and all five 5; above is 100, whatever the state");
+    let hoosfield = new_state([
+        234, 23, 1, 153_300, 4_485_200, 667_100, 25_857_600, 2_700_000,
+    ]);
+    for pool in 0..4 {
+        says(sheet, hoosfield, pool, (0, DATED, 0));
+    }
+    // IOM: 2 thousandths. All five: 31,168,600 of 33,863,200.
+    says(sheet, hoosfield, 4, (-99_800, DATED, 49_935));
+    says(sheet, hoosfield, ALL, (-7_958, DATED, 667));
+    for pool in 0..=ALL {
+        sheet.runs(report(STATE, pool));
+        // 12 doesn't concern a report, nor do the kept months up to 24.
+        for (months, kept) in [(0, 24), (120_000, 1)] {
+            sheet.runs(report(
+                changed(STATE, &[(MONTHS, months), (KEPT, kept), (CO2, 0)]),
+                pool,
+            ));
+        }
+    }
+    for pool in [6, 7, 8, 1 << 32, (1 << 32) + 5, u64::MAX - 1, u64::MAX] {
+        for state in [
+            STATE,
+            changed(STATE, &[(CLAY, 1_001)]),
+            changed(STATE, &[(KEPT, 25)]),
+            changed(STATE, &weighed([0; 4])),
+        ] {
+            sheet.refused(WRONG_SHAPE, report(state, pool));
+            assert_eq!(sheet.answer()[1..], [FILL; REPORT_NUMBERS]);
+        }
+    }
+}
+
+/// A report's refusals: 4 to 7 and 10 of the state, then 22.
+fn report_refused(sheet: &mut Sheet) {
+    sheet.group("R: 4 to 7 and 10 of the state whatever is asked, modern grams among them");
+    let limit = deficit_limit(&STATE);
+    let modern_limit = CEILING + 10 * MODERN_A_MONTH;
+    let faults: [(u64, &[(usize, u64)]); 22] = [
+        (4, &[(CLAY, 1_001)]),
+        (4, &[(CLAY, u64::MAX)]),
+        (5, &[(DEPTH, 0)]),
+        (5, &[(DEPTH, 101)]),
+        (6, &[(KIND, 0)]),
+        (6, &[(KIND, 4)]),
+        (7, &[(POOLS, CEILING + 1)]),
+        (7, &[(POOLS, u64::MAX), (POOLS + 1, 1)]),
+        (7, &[(INERT, CEILING + 1)]),
+        (10, &[(DEFICIT, limit + 1)]),
+        (10, &[(MONTHS, 120_001)]),
+        (10, &[(MONTHS, u64::MAX)]),
+        (10, &[(CO2, CEILING + 10 * A_MONTH + 1)]),
+        (10, &[(CO2, u64::MAX)]),
+        (10, &[(KEPT, 25)]),
+        (10, &[(KEPT, u64::MAX)]),
+        (10, &[(MODERN, modern_limit)]),
+        (10, &[(MODERN + 1, modern_limit + 1)]),
+        (10, &[(MODERN + 2, u64::MAX)]),
+        (10, &[(MODERN, u64::MAX), (MODERN + 3, 1)]),
+        (10, &[(MODERN + 1, 1 << 63), (MODERN + 2, 1 << 63)]),
+        (10, &[(MONTHS, 0), (MODERN + 3, CEILING + 1)]),
+    ];
+    for (index, (number, changes)) in faults.into_iter().enumerate() {
+        let pool = index as u64 % (ALL + 1);
+        sheet.refused(number, report(changed(STATE, changes), pool));
+        assert_eq!(sheet.answer()[1..], [FILL; REPORT_NUMBERS]);
+        // Before 22.
+        let none = changed(
+            STATE,
+            &[&pools([0; 4])[..], &[(INERT, 0)], changes].concat(),
+        );
+        sheet.refused(number, report(none, (pool + 1) % (ALL + 1)));
+        sheet.refused(number, report(none, ALL));
+    }
+    sheet.group("R: two faults of 4 to 7 and 10 at once, the first asked wins");
+    let ordered = [
+        (4, (CLAY, 1_001)),
+        (5, (DEPTH, 0)),
+        (6, (KIND, 4)),
+        (7, (INERT, CEILING + 1)),
+        (10, (MODERN + 2, 1 << 62)),
+    ];
+    for (index, (number, first)) in ordered.into_iter().enumerate() {
+        for (_, second) in &ordered[index + 1..] {
+            sheet.refused(number, report(changed(STATE, &[first, *second]), ALL));
+        }
+    }
+    sheet.group(
+        "R: 22 on a pool without carbon, with modern grams or without; all five only if none",
+    );
+    for pool in 0..4u64 {
+        let place = POOLS + pool as usize;
+        for grams in [0, 5, CEILING] {
+            let state = changed(STATE, &[(place, 0), (MODERN + pool as usize, grams)]);
+            sheet.refused(22, report(state, pool));
+            assert_eq!(sheet.answer()[1..], [FILL; REPORT_NUMBERS]);
+            sheet.runs(report(state, ALL));
+        }
+        // One gram of this pool alone.
+        let one = changed(
+            STATE,
+            &[&weighed([0; 4])[..], &[(INERT, 0), (place, 1)]].concat(),
+        );
+        says(sheet, one, pool, (-100_000, OLDER, 0));
+        says(sheet, one, ALL, (-100_000, OLDER, 0));
+        sheet.refused(22, report(one, (pool + 1) % 4));
+        sheet.refused(22, report(one, 4));
+    }
+    sheet.refused(22, report(changed(STATE, &[(INERT, 0)]), 4));
+    for grams in [0, 1, CEILING / 4] {
+        let none = [&pools([0; 4])[..], &modern([grams; 4]), &[(INERT, 0)]].concat();
+        for pool in 0..=ALL {
+            sheet.refused(22, report(changed(STATE, &none), pool));
+        }
+        // One gram of IOM has no modern grams.
+        let inert = changed(STATE, &[&none[..], &[(INERT, 1)]].concat());
+        says(sheet, inert, 4, (-100_000, OLDER, 0));
+    }
+}
+
+/// Delta rounded down before 100,000 is taken off, from none to the most.
+fn report_deltas(sheet: &mut Sheet) {
+    sheet
+        .group("R: deltas at tiny and large carbon, rounded down; up to 4,800,099,999,999,900,000");
+    for (carbon, grams, delta, dated, age) in [
+        (1, 0, -100_000, OLDER, 0),
+        (1, 1, 0, DATED, 0),
+        (1, 2, 100_000, NEWER, 0),
+        (3, 1, -66_667, DATED, 8_828),
+        (3, 2, -33_334, DATED, 3_258),
+        (3, 4, 33_333, NEWER, 0),
+        (7, 6, -14_286, DATED, 1_239),
+        (7, 8, 14_285, NEWER, 0),
+        (99_999, 99_998, -2, DATED, 1),
+        (100_000, 99_999, -1, DATED, 1),
+        (100_001, 100_000, -1, DATED, 1),
+        (200_000, 1, -100_000, OLDER, 0),
+        (99_999, 1, -99_999, OLDER, 0),
+        (100_001, 1, -100_000, OLDER, 0),
+        (CEILING, 0, -100_000, OLDER, 0),
+        (CEILING, 1, -100_000, OLDER, 0),
+        (CEILING, CEILING / 2, -50_000, DATED, 5_570),
+        (CEILING, CEILING - 1, -1, DATED, 1),
+        (CEILING, CEILING, 0, DATED, 0),
+        (CEILING, CEILING + 1, 0, NEWER, 0),
+        (CEILING, CEILING + 9_999, 0, NEWER, 0),
+        (CEILING, CEILING + 10_000, 1, NEWER, 0),
+        (CEILING, 2 * CEILING, 100_000, NEWER, 0),
+        (CEILING, 48_001_000_000_000, 4_800_000_000, NEWER, 0),
+        (CEILING - 1, 48_001_000_000_000, 4_800_000_004, NEWER, 0),
+    ] {
+        for pool in [0, 3] {
+            says(
+                sheet,
+                in_pool(pool, carbon, grams),
+                pool,
+                (delta, dated, age),
+            );
+        }
+    }
+    // One gram beside all the modern grams that there can be.
+    for pool in 0..4 {
+        let mut state = changed(STATE, &weighed([0; 4]));
+        (state[MONTHS], state[INERT]) = (120_000, 0);
+        (state[POOLS + pool], state[MODERN + pool]) = (1, 48_001_000_000_000);
+        let wanted = (4_800_099_999_999_900_000, NEWER, 0);
+        says(sheet, state, pool as u64, wanted);
+        says(sheet, state, ALL, wanted);
+    }
+}
+
+/// The smallest age that does it, from both sides: at the highest survival number that an age may
+/// have, and one below the lowest.
+fn report_ages(sheet: &mut Sheet) {
+    sheet.group("R: ages 1 to 60,000 and older, at the survival numbers of each from both sides");
+    let last = |years: u64| match years {
+        OLDEST => (OLDER, 0),
+        _ => (DATED, years + 1),
+    };
+    let delta =
+        |carbon: u64, grams: u64| (grams as i128 * 100_000 / carbon as i128) as i64 - 100_000;
+    for (index, years) in [
+        1, 2, 3, 10, 99, 100, 101, 667, 1_000, 5_567, 5_568, 5_569, 5_570, 8_034, 8_035, 8_036,
+        16_070, 20_000, 32_767, 32_768, 40_000, 49_934, 49_935, 50_000, 59_998, 59_999, 60_000,
+    ]
+    .into_iter()
+    .enumerate()
+    {
+        let (lowest, highest) = age_range(years, 1);
+        let pool = index as u64 % 4;
+        for carbon in [CEILING, 999_999_937, 61_803_398] {
+            let at = |s: u64| s as u128 * carbon as u128;
+            let billion = BILLION as u128;
+            // The least that reaches the highest, and the most that is below the lowest.
+            let reaches = at(highest).div_ceil(billion) as u64;
+            let misses = ((at(lowest) - 1) / billion) as u64;
+            for (grams, (dated, age)) in [(reaches, (DATED, years)), (misses, last(years))] {
+                let wanted = (delta(carbon, grams), dated, age);
+                says(sheet, in_pool(pool, carbon, grams), pool, wanted);
+            }
+        }
+    }
+    sheet.group("R: modern = carbon is 0, one less at most 1 at large carbon, one more is newer");
+    for carbon in [1, 2, 3, 10, 8_035, 8_036, 8_037, 123_456_789, CEILING] {
+        for pool in [1, 2] {
+            says(sheet, in_pool(pool, carbon, carbon), pool, (0, DATED, 0));
+            let more = (100_000 / carbon) as i64;
+            says(
+                sheet,
+                in_pool(pool, carbon, carbon + 1),
+                pool,
+                (more, NEWER, 0),
+            );
+            sheet.runs(report(in_pool(pool, carbon, carbon - 1), pool));
+            let answer = sheet.answer();
+            // e^(-1/8035) is 0.99987555: a year does it from 8,036 g on.
+            let a_year = answer[2..] == [DATED, 1];
+            assert_eq!(a_year, carbon >= 8_036, "{carbon}");
+        }
+    }
+}
+
+/// IOM: 2 thousandths of its carbon, rounded down.
+fn report_inert(sheet: &mut Sheet) {
+    sheet.group("R: IOM has 2 thousandths of its carbon, rounded down, whatever else there is");
+    for (inert, delta, dated, age) in [
+        (1, -100_000, OLDER, 0),
+        (499, -100_000, OLDER, 0),
+        (500, -99_800, DATED, 49_935),
+        (501, -99_801, DATED, 49_951),
+        (999, -99_900, DATED, 55_496),
+        (1_000, -99_800, DATED, 49_935),
+        (1_499, -99_867, DATED, 53_187),
+        (1_500, -99_800, DATED, 49_935),
+        (49_999, -99_802, DATED, 50_015),
+        (2_700_000, -99_800, DATED, 49_935),
+        (2_700_499, -99_801, DATED, 49_936),
+        (999_999_999, -99_801, DATED, 49_935),
+        (CEILING, -99_800, DATED, 49_935),
+    ] {
+        let state = changed(STATE, &[(INERT, inert)]);
+        says(sheet, state, 4, (delta, dated, age));
+        let alone = changed(state, &weighed([0; 4]));
+        says(sheet, alone, 4, (delta, dated, age));
+        says(sheet, alone, ALL, (delta, dated, age));
+    }
+}
+
+/// All five: grams and modern grams are added up first.
+fn report_all(sheet: &mut Sheet) {
+    sheet.group("R: all five: grams and modern grams added first, IOM's among them");
+    let five = |grams: [u64; 4], own: [u64; 4], inert: u64| {
+        let more = [(INERT, inert), (MONTHS, 120_000), (CO2, 0)];
+        changed(STATE, &[&pools(grams)[..], &modern(own), &more].concat())
+    };
+    for (grams, own, inert, wanted) in [
+        // 1,100 of 2,000; the mean of five deltas or ages would be another.
+        ([500; 4], [1_000, 100, 0, 0], 0, (-45_000, DATED, 4_804)),
+        // Modern grams where no carbon is.
+        ([0, 0, 0, 1_000], [600, 300, 99, 0], 0, (-100, DATED, 9)),
+        ([0, 0, 0, 1_000], [600, 300, 100, 0], 0, (0, DATED, 0)),
+        ([0, 0, 0, 1_000], [600, 300, 101, 0], 0, (100, NEWER, 0)),
+        // IOM's 2 make it 1,000 of 1,998, its 1 makes it 999.
+        (
+            [998, 0, 0, 0],
+            [998, 0, 0, 0],
+            1_000,
+            (-49_950, DATED, 5_562),
+        ),
+        ([998, 0, 0, 0], [998, 0, 0, 0], 999, (-49_975, DATED, 5_566)),
+        // 2 g of IOM's lift it to what its carbon is, and 1 more above.
+        ([0, 0, 1, 0], [0, 999, 0, 0], 1_000, (0, DATED, 0)),
+        ([0, 0, 1, 0], [0, 1_000, 0, 0], 1_000, (99, NEWER, 0)),
+        // 2,000,000,000 g.
+        ([250_000_000; 4], [499_500_000; 4], CEILING, (0, DATED, 0)),
+        (
+            [250_000_000; 4],
+            [499_500_000, 499_500_000, 499_500_000, 499_500_001],
+            CEILING,
+            (0, NEWER, 0),
+        ),
+        (
+            [250_000_000; 4],
+            [499_500_000, 499_500_000, 499_499_999, 499_500_000],
+            CEILING,
+            (-1, DATED, 1),
+        ),
+        (
+            [250_000_000; 4],
+            [12_000_250_000_000; 4],
+            CEILING,
+            (2_399_950_100, NEWER, 0),
+        ),
+        ([250_000_000; 4], [0; 4], CEILING, (-99_900, DATED, 55_504)),
+        ([CEILING, 0, 0, 0], [0; 4], 499, (-100_000, OLDER, 0)),
+    ] {
+        says(sheet, five(grams, own, inert), ALL, wanted);
+    }
+}
+
+/// Drawn states, every pool of each.
+fn report_drawn(sheet: &mut Sheet) {
+    sheet.group("R: drawn states, each pool and all five");
+    let mut draw = Draw::new(107);
+    let mut made = [0; 3];
+    for _ in 0..40 {
+        let mut state = drawn_state(&mut draw, 240_000_000);
+        state[MONTHS] = draw.below(120_001);
+        for pool in 0..4 {
+            let carbon = state[POOLS + pool];
+            state[MODERN + pool] = match draw.below(4) {
+                0 => carbon + draw.below(carbon + 1),
+                1 => carbon / (1 + draw.below(2_500)),
+                _ => draw.below(carbon + 1),
+            };
+        }
+        let total: u64 = state[MODERN..KEPT].iter().sum();
+        if total > CEILING + MODERN_A_MONTH * state[MONTHS] {
+            continue;
+        }
+        for pool in 0..=ALL {
+            if sheet.runs_if_fixed(report(state, pool)) {
+                made[sheet.answer()[2] as usize] += 1;
+            }
+        }
+    }
+    assert!(made.iter().all(|made| *made > 3), "{made:?}");
 }
 
 // ---- T: a weather office's table ----
@@ -3029,9 +4030,76 @@ fn terms_too_far(sheet: &mut Sheet) {
     }
 }
 
+// ---- A: survival numbers of ages ----
+
+/// A line whose answer is stated.
+fn put_age(sheet: &mut Sheet, years: u64, s: u64, wanted: u64) {
+    let call = Call::Age { years, s };
+    let (answer, fixed) = call.fixed_answer();
+    assert!(fixed && answer == [wanted], "{}", call.line());
+    sheet.put(call, answer);
+}
+
+/// Ages of every size with s the nearest whole number.
+fn age_numbers(sheet: &mut Sheet) {
+    sheet.group("A: survival numbers of ages 0 to 60,000, s the nearest");
+    let mut draw = Draw::new(109);
+    for years in (0..40).chain([5_568, 5_569, 8_034, 8_035, 8_036, 16_070, 49_934, 49_935]) {
+        put_age(sheet, years, age_nearest(years), 1);
+    }
+    for _ in 0..160 {
+        let years = draw.below(OLDEST + 1);
+        put_age(sheet, years, age_nearest(years), 1);
+    }
+    for years in 59_980..=OLDEST {
+        put_age(sheet, years, age_nearest(years), 1);
+    }
+}
+
+/// No number above 60,000 years; too far off; exact at 0.
+fn age_ends(sheet: &mut Sheet) {
+    sheet.group(
+        "A: none above 60,000 years; exact at 0; an s too far off, also where it would wrap",
+    );
+    for years in [
+        OLDEST + 1,
+        OLDEST + 2,
+        65_536,
+        1 << 32,
+        (1 << 32) + 1,
+        1 << 63,
+    ]
+    .into_iter()
+    .chain([u64::MAX - 1, u64::MAX])
+    {
+        put_age(sheet, years, NO_SURVIVAL, 1);
+    }
+    for (s, wanted) in [
+        (BILLION - 2, 0),
+        (BILLION - 1, 1),
+        (BILLION, 1),
+        (BILLION + 1, 1),
+        (BILLION + 2, 0),
+        (0, 0),
+        (u64::MAX, 0),
+    ] {
+        put_age(sheet, 0, s, wanted);
+    }
+    for years in [1, 667, 8_035, 49_935, OLDEST] {
+        let (lowest, highest) = age_range(years, 1);
+        for s in [lowest - 2, highest + 2, 0, u64::MAX] {
+            put_age(sheet, years, s, 0);
+        }
+        for s in [lowest, highest] {
+            put_age(sheet, years, s, 1);
+        }
+    }
+}
+
 #[cfg(test)]
 mod tests {
     use super::*;
+    use crate::fixed::AtEnd;
     use std::collections::BTreeMap;
 
     #[test]
@@ -3041,14 +4109,14 @@ mod tests {
         let input: usize = lines.iter().map(|line| line.call.input().len()).sum();
         let answered = |line: &&Line| line.call.answer_line(&line.answer).len() + 1;
         let output: usize = lines.iter().map(answered).sum();
-        assert!(lines.len() >= 4_600, "{} lines", lines.len());
-        assert!(input < 850_000, "{input} bytes in");
-        assert!(output < 2_000_000, "{output} bytes out");
+        assert!(lines.len() >= 6_300, "{} lines", lines.len());
+        assert!(input < 1_100_000, "{input} bytes in");
+        assert!(output < 1_300_000, "{output} bytes out");
         // Every refusal that a call can meet is there, and the limits of the format are kept.
         let mut seen = std::collections::BTreeSet::new();
         for line in &lines {
             let letter = line.call.line().chars().next().unwrap();
-            if !['D', 'K'].contains(&letter) {
+            if !['D', 'K', 'A'].contains(&letter) {
                 seen.insert((letter, line.answer[0]));
             }
             if let Call::List {
@@ -3058,17 +4126,27 @@ mod tests {
                 ..
             } = &line.call
             {
-                assert!(weather.len() <= 4_900 && land.len() <= 3_700 && *output <= 8_500);
+                assert!(weather.len() <= 4_900 && land.len() <= 4_900 && *output <= 8_500);
             }
             if let Call::Table { room, table } = &line.call {
                 assert!(*room <= 4_900 && table.len() <= 25_000);
             }
         }
-        let wanted: [(char, &[u64]); 7] = [
+        let wanted: [(char, &[u64]); 8] = [
             ('N', &[0, 4, 5, 6, 7]),
-            ('M', &[0, 4, 5, 6, 7, 10, 11, 12, 13, 14, 19, 15, 16, 17]),
-            ('L', &[0, 3, 4, 5, 6, 7, 8, 10, 12, 13, 14, 19, 15, 16, 17]),
-            ('S', &[0, 3, 4, 5, 6, 7, 9, 10, 12, 13, 14, 19, 15, 16, 17]),
+            (
+                'M',
+                &[0, 4, 5, 6, 7, 10, 11, 12, 13, 14, 19, 15, 16, 21, 17],
+            ),
+            (
+                'L',
+                &[0, 3, 4, 5, 6, 7, 8, 10, 12, 13, 14, 19, 15, 16, 21, 17],
+            ),
+            (
+                'S',
+                &[0, 3, 4, 5, 6, 7, 9, 10, 12, 13, 14, 19, 15, 16, 21, 17],
+            ),
+            ('R', &[0, 4, 5, 6, 7, 10, 22, 100]),
             ('B', &[0, 10, 20]),
             // The new state's number; the acts' follow it.
             ('H', &[0, 4, 7]),
@@ -3082,14 +4160,14 @@ mod tests {
         // The answers don't move with S.
         for line in &lines {
             let distance = match line.call {
-                Call::Survival { .. } | Call::Terms { .. } => 1,
+                Call::Survival { .. }
+                | Call::Terms { .. }
+                | Call::Age { .. }
+                | Call::Report { .. } => 1,
                 _ => 3,
             };
-            for end in 0..2 {
-                let mut survival = |n: u64, k: u64| {
-                    let (lowest, highest) = survival_range(n, k, distance);
-                    [lowest, highest][end]
-                };
+            for highest in [false, true] {
+                let mut survival = AtEnd { highest, distance };
                 let answer = line.call.answer(7, &mut survival, &mut |_, _| ());
                 assert!(answer == line.answer, "{}", line.call.line());
             }

@@ -1,48 +1,61 @@
 //! Calls over plain numbers: the layouts, a call's line, and the numbers that answer it.
 //!
-//! | line | the call | its answer |
-//! |---|---|---|
-//! | `N` soil(8) | a soil's new state | number, the 12 of the lent state |
-//! | `M` state(12) number entries(7) | a single month call | number, the 7 of the lent row, the 12 of the state |
-//! | `L` w weather(w) l land(l) o state(12) | a list with an output of o numbers | number, place, the 12 of the state, the o of the output |
-//! | `S` w weather(w) l land(l) years state(12) | a spin-up | number, settled, years run or place, the 12 of the state |
-//! | `B` state(12) base(11) | a taking-back | number, the 12 of the state |
-//! | `H` soil(8) n acts(n) | a history: a new state, then acts on it | the new state's number, each act's, all 276 of the state |
-//! | `T` room length | a table, with an output of room numbers | number, rows, place, the room of the output |
-//! | `D` n pool s | a survival number | 1 where it is at most 1 from s, else 0 |
-//! | `K` n pool s | a survival number with its terms | 1 or 0 as for `D`, 1 where the call without terms returns the same, else 0, the lent terms |
+//! A line is a letter and numbers; its answer is a line of numbers.
+//!
+//! - `N` soil(8), a soil's new state: number, the 16 of the lent state.
+//! - `M` state(16) number entries(8), a single month call: number, the 7 of the lent row, the 16 of
+//!   the state.
+//! - `L` w weather(w) l land(l) o state(16), a list with an output of o numbers: number, place, the
+//!   16 of the state, the o of the output.
+//! - `S` w weather(w) l land(l) years state(16), a spin-up: number, settled, years run or place,
+//!   the 16 of the state.
+//! - `B` state(16) base(15), a taking-back: number, the 16 of the state.
+//! - `H` soil(8) n acts(n), a history, which is a new state and then acts on it: the new state's
+//!   number, each act's, all 376 of the state.
+//! - `R` state(16) pool, a radiocarbon report: number, the 3 of the lent report.
+//! - `T` room length, a table with an output of room numbers: number, rows, place, the room of the
+//!   output.
+//! - `D` n pool s, a survival number: 1 where it is at most 1 from s, else 0.
+//! - `K` n pool s, a survival number with its terms: 1 or 0 as for `D`, 1 where the call without
+//!   terms returns the same, else 0, the lent terms.
+//! - `A` y s, the survival number of an age of y years: 1 where it is at most 1 from s, else 0.
 //!
 //! soil: clay, depth, kind, DPM, RPM, BIO, HUM, IOM. state: these 8, deficit, months done, CO2 to
-//! date, kept count; a lent state has 24 places of 11 numbers more, for kept states. Before a call
-//! they hold 7 as all memory does that a call writes, but for a taking-back: there place p (from 0)
-//! holds base + p, a sum that may wrap. entries: a weather row and a land row. weather row:
-//! temperature, rain, evaporation, source (0 open pan, 1 evapotranspiration). land row: cover,
-//! plant, manure. row: the five pools, the month's CO2, deficit. number: the refusal's, 0 where
-//! nothing is refused. A table's bytes follow its line, exactly as many as its length says, and one
-//! byte 10 follows them.
+//! date, the modern grams of DPM, RPM, BIO, HUM, kept count; a lent state has 24 places of 15
+//! numbers more, for kept states. Before a call they hold 7 as all memory does that a call writes,
+//! but for a taking-back: there place p (from 0) holds base + p, a sum that may wrap. entries: a
+//! weather row and a land row. weather row: temperature, rain, evaporation, source (0 open pan, 1
+//! evapotranspiration). land row: cover, plant, manure, activity. row: the five pools, the month's
+//! CO2, deficit. report, of signed numbers: delta, 0 where there is an age, 1 for older, 2 for
+//! newer, and the age, 0 where there is none. number: the refusal's, 0 where nothing is refused,
+//! 100 where a report's pool is above 5. A table's bytes follow its line, exactly as many as its
+//! length says, and one byte 10 follows them.
 //!
 //! n and pool of a `K` line are any numbers: where the pool is above 3 or n above 8,363,900,000
-//! both calls return 2^64 - 1, which is then the line's s, and the terms stay 7.
+//! both calls return 2^64 - 1, which is then the line's s, and the terms stay 7. The call of an `A`
+//! line returns it where y is above 60,000; the line's s is then 2^64 - 1, and no other will do.
 //!
-//! An act is nine numbers: 0 for a taking-back, with eight zeros; 1 for a month, 2 for a list, 3
-//! for a spin-up, with the month's number, the list's land rows or the years, and the entries. A
-//! list's land rows are all alike and its weather row is one; a spin-up has twelve of each.
+//! An act is ten numbers: 0 for a taking-back, with nine zeros; 1 for a month, 2 for a list, 3 for
+//! a spin-up, with the month's number, the list's land rows or the years, and the entries. A list's
+//! land rows are all alike and its weather row is one; a spin-up has twelve of each.
 
-use crate::exponential::{survival_range, terms};
-use crate::fixed::month_fixed;
+use crate::exponential::{age_range, survival_range, terms, OLDEST};
+use crate::fixed::{month_fixed, report_fixed};
 use crate::memory;
 use crate::model::{
-    Entries, Nearest, Refusal, Soil, Spun, State, Survival, Watch, KEPT_LIMIT, LAND_NUMBERS,
-    OUTPUT_NUMBERS, RATES, WEATHER_NUMBERS,
+    Asked, Dated, Entries, Nearest, Refusal, Soil, Spun, State, Survival, Watch, KEPT_LIMIT,
+    LAND_NUMBERS, OUTPUT_NUMBERS, RATES, WEATHER_NUMBERS,
 };
 use crate::table;
 
 pub const SOIL_NUMBERS: usize = 8;
 /// A state itself, current or kept.
-pub const OWN_NUMBERS: usize = 11;
+pub const OWN_NUMBERS: usize = 15;
 /// A lent state: itself, the kept count, the places.
 pub const STATE_NUMBERS: usize = PLACES + KEPT_LIMIT * OWN_NUMBERS;
 pub const ENTRY_NUMBERS: usize = WEATHER_NUMBERS + LAND_NUMBERS;
+/// A radiocarbon report: delta, whether there is an age, the age.
+pub const REPORT_NUMBERS: usize = 3;
 /// Kind, number, entries.
 pub const ACT_NUMBERS: usize = 2 + ENTRY_NUMBERS;
 /// Most acts of a history's line.
@@ -50,6 +63,10 @@ pub const MOST_ACTS: usize = 80;
 
 /// Numbers of a table's answer before its output: the refusal's number, rows, place.
 const TABLE_HEAD: usize = 3;
+
+/// What a call returns where lent memory of a fixed layout has another length, or where a report's
+/// pool is above 5.
+pub const WRONG_SHAPE: u64 = 100;
 
 /// What lent memory holds before a call of the test lines.
 pub const FILL: u64 = 7;
@@ -76,10 +93,12 @@ pub const INERT: usize = 7;
 pub const DEFICIT: usize = 8;
 pub const MONTHS: usize = 9;
 pub const CO2: usize = 10;
+/// The modern grams of DPM; those of RPM, BIO and HUM follow.
+pub const MODERN: usize = 11;
 /// The kept count.
-pub const KEPT: usize = 11;
+pub const KEPT: usize = 15;
 /// The first number of the first place.
-pub const PLACES: usize = 12;
+pub const PLACES: usize = 16;
 
 /// Places in the entries; the first four also in a weather row.
 pub const TEMPERATURE: usize = 0;
@@ -89,6 +108,10 @@ pub const SOURCE: usize = 3;
 pub const COVER: usize = 4;
 pub const PLANT: usize = 5;
 pub const MANURE: usize = 6;
+pub const ACTIVITY: usize = 7;
+
+/// What a report is asked of, by number: all five together.
+pub const ALL: u64 = 5;
 
 pub fn soil_of(numbers: &[u64]) -> Soil {
     Soil {
@@ -100,13 +123,14 @@ pub fn soil_of(numbers: &[u64]) -> Soil {
     }
 }
 
-/// The state in the first eleven of these numbers.
+/// The state in the first fifteen of these numbers.
 pub fn state_of(numbers: &[u64]) -> State {
     State {
         soil: soil_of(numbers),
         deficit: numbers[DEFICIT] as i128,
         months: numbers[MONTHS],
         co2: numbers[CO2],
+        modern: std::array::from_fn(|pool| numbers[MODERN + pool]),
     }
 }
 
@@ -125,7 +149,21 @@ pub fn numbers_of(state: &State) -> OwnNumbers {
         whole(state.deficit),
         state.months,
         state.co2,
+        state.modern[0],
+        state.modern[1],
+        state.modern[2],
+        state.modern[3],
     ]
+}
+
+/// What a report's pool number asks of, or nothing where it is above 5.
+pub fn asked_of(pool: u64) -> Option<Asked> {
+    match pool {
+        0..=3 => Some(Asked::Active(pool as usize)),
+        4 => Some(Asked::Inert),
+        ALL => Some(Asked::All),
+        _ => None,
+    }
 }
 
 pub fn entries_of(numbers: &EntryNumbers) -> Entries {
@@ -137,6 +175,7 @@ pub fn entries_of(numbers: &EntryNumbers) -> Entries {
         cover: numbers[COVER],
         plant: numbers[PLANT],
         manure: numbers[MANURE],
+        activity: numbers[ACTIVITY],
     }
 }
 
@@ -246,6 +285,10 @@ pub enum Call {
         soil: SoilNumbers,
         acts: Vec<Act>,
     },
+    Report {
+        state: StateNumbers,
+        pool: u64,
+    },
     Table {
         /// Numbers of the lent output.
         room: usize,
@@ -261,12 +304,26 @@ pub enum Call {
         pool: u64,
         s: u64,
     },
+    Age {
+        years: u64,
+        s: u64,
+    },
 }
 
 /// The rate of a survival number that is asked for, or nothing where the call has none to give.
 pub fn rate(n: u64, pool: u64) -> Option<u64> {
     let pool = usize::try_from(pool).ok()?;
     RATES.get(pool).copied().filter(|_| n <= LARGEST_N)
+}
+
+/// 1 where the survival number of an age is at most 1 from s, else 0; where there is no number, 1
+/// only for what stands for none.
+pub fn close_age(years: u64, own: u64, s: u64) -> u64 {
+    if years > OLDEST {
+        u64::from(own == NO_SURVIVAL && s == NO_SURVIVAL)
+    } else {
+        close(own, s)
+    }
 }
 
 /// 1 where two numbers are at most 1 apart, else 0.
@@ -311,9 +368,11 @@ impl Call {
             Call::SpinUp { .. } => "spin-up",
             Call::TakeBack { .. } => "taking-back",
             Call::History { .. } => "history",
+            Call::Report { .. } => "report",
             Call::Table { .. } => "table",
             Call::Survival { .. } => "survival",
             Call::Terms { .. } => "survival and terms",
+            Call::Age { .. } => "age",
         }
     }
 
@@ -323,7 +382,8 @@ impl Call {
             Call::Month { state, .. }
             | Call::List { state, .. }
             | Call::SpinUp { state, .. }
-            | Call::TakeBack { state } => Some(state),
+            | Call::TakeBack { state }
+            | Call::Report { state, .. } => Some(state),
             _ => None,
         }
     }
@@ -336,7 +396,11 @@ impl Call {
             Call::List { .. } => Some(2),
             Call::SpinUp { .. } => Some(3),
             Call::History { acts, .. } => Some(1 + acts.len()),
-            Call::Table { .. } | Call::Survival { .. } | Call::Terms { .. } => None,
+            Call::Report { .. }
+            | Call::Table { .. }
+            | Call::Survival { .. }
+            | Call::Terms { .. }
+            | Call::Age { .. } => None,
         }
     }
 
@@ -396,9 +460,11 @@ impl Call {
                 let acts: Vec<i128> = acts.iter().flat_map(Act::numbers).collect();
                 format!("H {} {}", words(soil), counted(&acts))
             }
+            Call::Report { state, pool } => format!("R {} {pool}", words(said(state))),
             Call::Table { room, table } => format!("T {room} {}", table.len()),
             Call::Survival { n, pool, s } => format!("D {n} {pool} {s}"),
             Call::Terms { n, pool, s } => format!("K {n} {pool} {s}"),
+            Call::Age { years, s } => format!("A {years} {s}"),
         }
     }
 
@@ -414,17 +480,21 @@ impl Call {
         bytes
     }
 
-    /// The line of an answer to this call, without byte 10. The numbers of a table's output are
-    /// signed. The places of a state stand only in a history's.
+    /// The line of an answer to this call, without byte 10. The numbers of a table's output and of
+    /// a report are signed. The places of a state stand only in a history's.
     pub fn answer_line(&self, answer: &[u64]) -> String {
         match self {
-            Call::Table { .. } => {
-                let (head, output) = answer.split_at(TABLE_HEAD);
+            Call::Table { .. } | Call::Report { .. } => {
+                let table = matches!(self, Call::Table { .. });
+                let (head, output) = answer.split_at(if table { TABLE_HEAD } else { 1 });
                 let output = output.iter().map(|number| i128::from(*number as i64));
                 let head = head.iter().map(|number| i128::from(*number));
                 words(&head.chain(output).collect::<Vec<i128>>())
             }
-            Call::History { .. } | Call::Survival { .. } | Call::Terms { .. } => words(answer),
+            Call::History { .. }
+            | Call::Survival { .. }
+            | Call::Terms { .. }
+            | Call::Age { .. } => words(answer),
             _ => {
                 let at = self.state_at().expect("all others have a state");
                 let (head, rest) = answer.split_at(at + PLACES);
@@ -493,6 +563,23 @@ impl Call {
                 answer.extend(state);
                 answer
             }
+            Call::Report { state, pool } => {
+                let Some(asked) = asked_of(*pool) else {
+                    return [&[WRONG_SHAPE][..], &[fill; REPORT_NUMBERS]].concat();
+                };
+                let answer = memory::radiocarbon(state, asked, survival);
+                let number = refusal(&answer).0;
+                let numbers = answer.map_or([fill; REPORT_NUMBERS], |report| {
+                    let (dated, age) = match report.dated {
+                        Dated::Age(years) => (0, years),
+                        Dated::Older => (1, 0),
+                        Dated::Newer => (2, 0),
+                    };
+                    let delta = i64::try_from(report.delta).expect("what 10 allows");
+                    [delta as u64, dated, age]
+                });
+                [&[number], &numbers[..]].concat()
+            }
             Call::Table { room, table } => {
                 let mut output = vec![fill as i64; *room];
                 let answer = table::read(table, &mut output);
@@ -513,11 +600,18 @@ impl Call {
                 // Both calls return the one number.
                 vec![close(own, *s), 1, terms]
             }
+            Call::Age { years, s } => {
+                let own = match *years {
+                    0..=OLDEST => survival.age(*years),
+                    _ => NO_SURVIVAL,
+                };
+                vec![close_age(*years, own, *s)]
+            }
         }
     }
 
-    /// The answer, and whether it is the same for every allowed S. For a survival number:
-    /// whether it is the same for every S at most 1 from the exact number.
+    /// The answer, and whether it is the same for every allowed S. For a survival number and for
+    /// the ages of a report: for every S at most 1 from the exact number.
     pub fn fixed_answer(&self) -> (Vec<u64>, bool) {
         let asked = match self {
             Call::Survival { n, pool, s } => Some((*n, RATES[*pool], *s)),
@@ -528,6 +622,17 @@ impl Call {
             let (lowest, highest) = survival_range(n, k, 1);
             close(lowest, s) == close(highest, s)
         });
+        match self {
+            Call::Age { years, s } if *years <= OLDEST => {
+                let (lowest, highest) = age_range(*years, 1);
+                fixed = close(lowest, *s) == close(highest, *s);
+            }
+            Call::Report { state, pool } => {
+                fixed = asked_of(*pool)
+                    .is_none_or(|asked| report_fixed(&state_of(state), state[KEPT], asked).1);
+            }
+            _ => (),
+        }
         let answer = self.answer(FILL, &mut Nearest, &mut |state, entries| {
             fixed &= month_fixed(state, entries)
         });
@@ -538,6 +643,7 @@ impl Call {
 #[cfg(test)]
 mod tests {
     use super::*;
+    use crate::exponential::BILLION;
     use crate::model::{month, Field};
     use crate::vectors::Draw;
 
@@ -553,12 +659,15 @@ mod tests {
         ];
         let mut own = [0; OWN_NUMBERS];
         own[..SOIL_NUMBERS].copy_from_slice(&soil);
+        own[MODERN..].copy_from_slice(&[153_300, 4_485_200, 667_100, 25_857_600]);
         let state = lent_state(own, 0);
         assert_eq!(
             text(&Call::New { soil }),
             (
                 "N 234 23 1 153300 4485200 667100 25857600 2700000".into(),
-                "0 234 23 1 153300 4485200 667100 25857600 2700000 0 0 0 0".into(),
+                "0 234 23 1 153300 4485200 667100 25857600 2700000 0 0 0 \
+                 153300 4485200 667100 25857600 0"
+                    .into(),
                 true
             )
         );
@@ -567,13 +676,15 @@ mod tests {
             text(&Call::Month {
                 state,
                 number: 1,
-                entries: [34, 740, 80, 0, 0, 0, 0]
+                entries: [34, 740, 80, 0, 0, 0, 0, 1_000]
             }),
             (
-                "M 234 23 1 153300 4485200 667100 25857600 2700000 0 0 0 0 1 34 740 80 0 0 0 0"
+                "M 234 23 1 153300 4485200 667100 25857600 2700000 0 0 0 \
+                 153300 4485200 667100 25857600 0 1 34 740 80 0 0 0 0 1000"
                     .into(),
                 "0 113937 4445447 665104 25855106 2700000 83606 0 \
-                 234 23 1 113937 4445447 665104 25855106 2700000 0 1 83606 1"
+                 234 23 1 113937 4445447 665104 25855106 2700000 0 1 83606 \
+                 113935 4445401 665097 25854836 1"
                     .into(),
                 true
             )
@@ -581,15 +692,17 @@ mod tests {
         assert_eq!(
             text(&Call::List {
                 weather: vec![34, 740, 60, 1],
-                land: vec![0, 0, 0, 2, 0, 0],
+                land: vec![0, 0, 0, 1_000, 2, 0, 0, 0],
                 output: 15,
                 state: lent_state(own, 23)
             }),
             (
-                "L 4 34 740 60 1 6 0 0 0 2 0 0 15 \
-                 234 23 1 153300 4485200 667100 25857600 2700000 0 0 0 23"
+                "L 4 34 740 60 1 8 0 0 0 1000 2 0 0 0 15 \
+                 234 23 1 153300 4485200 667100 25857600 2700000 0 0 0 \
+                 153300 4485200 667100 25857600 23"
                     .into(),
-                "15 2 234 23 1 113937 4445447 665104 25855106 2700000 0 1 83606 24 \
+                "15 2 234 23 1 113937 4445447 665104 25855106 2700000 0 1 83606 \
+                 113935 4445401 665097 25854836 24 \
                  113937 4445447 665104 25855106 2700000 83606 0 7 7 7 7 7 7 7 7"
                     .into(),
                 true
@@ -600,32 +713,35 @@ mod tests {
                 weather: vec![],
                 land: vec![-1],
                 years: 3,
-                state: lent_state([9; 11], 25)
+                state: lent_state([9; 15], 25)
             }),
             (
-                "S 0 1 -1 3 9 9 9 9 9 9 9 9 9 9 9 25".into(),
-                "3 0 0 9 9 9 9 9 9 9 9 9 9 9 25".into(),
+                "S 0 1 -1 3 9 9 9 9 9 9 9 9 9 9 9 9 9 9 9 25".into(),
+                "3 0 0 9 9 9 9 9 9 9 9 9 9 9 9 9 9 9 25".into(),
                 true
             )
         );
         // Place (5 + 23) mod 24 is 4; the last sum wraps.
-        let mut state = lent_state([9, 9, 9, 9, 9, 9, 9, 9, 9, 5, 9], 24);
+        let mut state = lent_state([9, 9, 9, 9, 9, 9, 9, 9, 9, 5, 9, 9, 9, 9, 9], 24);
         for index in 0..KEPT_LIMIT * OWN_NUMBERS {
-            let base = [0, 1, 2, 3, 4, 5, 6, 7, 8, 100, u64::MAX - 3][index % OWN_NUMBERS];
+            let base = [0, 1, 2, 3, 4, 5, 6, 7, 8, 100, 10, 11, 12, 13, u64::MAX - 3];
+            let base = base[index % OWN_NUMBERS];
             state[PLACES + index] = base.wrapping_add((index / OWN_NUMBERS) as u64);
         }
         assert_eq!(
             text(&Call::TakeBack { state }),
             (
-                "B 9 9 9 9 9 9 9 9 9 5 9 24 0 1 2 3 4 5 6 7 8 100 18446744073709551612".into(),
-                "0 4 5 6 7 8 9 10 11 12 104 0 23".into(),
+                "B 9 9 9 9 9 9 9 9 9 5 9 9 9 9 9 24 \
+                 0 1 2 3 4 5 6 7 8 100 10 11 12 13 18446744073709551612"
+                    .into(),
+                "0 4 5 6 7 8 9 10 11 12 104 14 15 16 17 0 23".into(),
                 true
             )
         );
         assert!(Call::TakeBack { state }.is_said());
         state[STATE_NUMBERS - 1] ^= 1;
         assert!(!Call::TakeBack { state }.is_said());
-        let entries = [34, 740, 80, 0, 0, 0, 0];
+        let entries = [34, 740, 80, 0, 0, 0, 0, 1_000];
         let history = Call::History {
             soil,
             acts: vec![
@@ -637,13 +753,15 @@ mod tests {
                 Act::SpinUp { years: 0, entries },
             ],
         };
-        let new = "234 23 1 153300 4485200 667100 25857600 2700000 0 0 0";
+        let new = "234 23 1 153300 4485200 667100 25857600 2700000 0 0 0 \
+                   153300 4485200 667100 25857600";
         assert_eq!(
             text(&history),
             (
-                "H 234 23 1 153300 4485200 667100 25857600 2700000 54 \
-                 1 1 34 740 80 0 0 0 0 1 1 34 740 80 0 0 0 0 0 0 0 0 0 0 0 0 0 0 0 0 0 0 0 0 0 0 \
-                 2 0 34 740 80 0 0 0 0 3 0 34 740 80 0 0 0 0"
+                "H 234 23 1 153300 4485200 667100 25857600 2700000 60 \
+                 1 1 34 740 80 0 0 0 0 1000 1 1 34 740 80 0 0 0 0 1000 \
+                 0 0 0 0 0 0 0 0 0 0 0 0 0 0 0 0 0 0 0 0 \
+                 2 0 34 740 80 0 0 0 0 1000 3 0 34 740 80 0 0 0 0 1000"
                     .into(),
                 format!(
                     "0 0 11 0 20 3 9 {new} 0 {new}{}",
@@ -652,6 +770,45 @@ mod tests {
                 true
             )
         );
+        let report = |pool: u64| text(&Call::Report { state, pool }).1;
+        assert_eq!(report(0), "6 7 7 7");
+        assert_eq!(
+            (report(6), report(u64::MAX)),
+            (report(7), "100 7 7 7".into())
+        );
+        own[MODERN + 1] = 0;
+        own[MODERN + 2] *= 2;
+        let state = lent_state(own, 3);
+        let report = |pool: u64| text(&Call::Report { state, pool });
+        assert_eq!(
+            report(0),
+            (
+                "R 234 23 1 153300 4485200 667100 25857600 2700000 0 0 0 \
+                 153300 0 1334200 25857600 3 0"
+                    .into(),
+                "0 0 0 0".into(),
+                true
+            )
+        );
+        assert_eq!(report(1).1, "0 -100000 1 0");
+        assert_eq!(report(2).1, "0 100000 2 0");
+        assert_eq!(report(4).1, "0 -99800 0 49935");
+        let age = |years: u64, s: u64| text(&Call::Age { years, s });
+        assert_eq!(age(0, BILLION).0, "A 0 1000000000");
+        for (years, s, close) in [
+            (0, BILLION + 1, 1),
+            (0, BILLION + 2, 0),
+            (1, 999_875_552, 1),
+            (1, u64::MAX, 0),
+            (60_000, 571_310, 0),
+            (60_001, u64::MAX, 1),
+            (60_001, u64::MAX - 1, 0),
+            (u64::MAX, u64::MAX, 1),
+        ] {
+            let (line, answer, fixed) = age(years, s);
+            assert_eq!(answer, close.to_string(), "{line}");
+            assert!(fixed, "{line}");
+        }
         let table = |room: usize, bytes: &[u8]| Call::Table {
             room,
             table: bytes.to_vec(),
@@ -734,9 +891,10 @@ mod tests {
                     draw.between(0, 1),
                     draw.between(0, 3_000_000),
                     draw.between(0, 3_000_000),
+                    draw.between(0, 2_000),
                 ];
                 if draw.below(8) == 0 {
-                    entries[draw.below(7) as usize] = -401;
+                    entries[draw.below(8) as usize] = -401;
                 }
                 let act = match draw.below(16) {
                     0..=3 => Act::Month {
@@ -806,6 +964,7 @@ mod tests {
             (1, 0),
             (1, 11),
             (1, 13),
+            (1, 21),
             (2, 0),
             (2, 3),
             (3, 0),

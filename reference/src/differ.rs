@@ -2,25 +2,26 @@
 //!
 //! The reference takes S from the other program, as S alone has latitude. Each S is asked for with
 //! the reference's own brackets: at most 1 from the exact number, and exactly 1,000,000,000 at
-//! w = 0. Everything else must then be equal: numbers, places, rows, states, bytes, and lent
-//! memory that stays as it was.
+//! w = 0. So are the survival numbers of the 60,001 ages. Everything else must then be equal:
+//! numbers, places, rows, states, reports, bytes, and lent memory that stays as it was.
 
 use crate::book::{self, Answer};
 use crate::calls::{
-    close, entries_of, rate, soil_of, state_of, Act, Call, EntryNumbers, LandRow, SoilNumbers,
-    StateNumbers, WeatherRow, CLAY, CO2, COVER, DEFICIT, DEPTH, ENTRY_NUMBERS, EVAPORATION, INERT,
-    KEPT, KIND, LARGEST_N, MANURE, MONTHS, NO_SURVIVAL, OWN_NUMBERS, PLACES, PLANT, POOLS, RAIN,
-    SOIL_NUMBERS, SOURCE, STATE_NUMBERS, TEMPERATURE,
+    close, close_age, entries_of, rate, soil_of, state_of, Act, Call, EntryNumbers, LandRow,
+    SoilNumbers, StateNumbers, WeatherRow, ACTIVITY, ALL, CLAY, CO2, COVER, DEFICIT, DEPTH,
+    ENTRY_NUMBERS, EVAPORATION, INERT, KEPT, KIND, LARGEST_N, MANURE, MODERN, MONTHS, NO_SURVIVAL,
+    OWN_NUMBERS, PLACES, PLANT, POOLS, RAIN, REPORT_NUMBERS, SOIL_NUMBERS, SOURCE, STATE_NUMBERS,
+    TEMPERATURE, WRONG_SHAPE,
 };
 use crate::exponential::{
-    exponent_parts, least_n, least_remainder, temperature_factor, terms, within, BILLION,
-    MOST_TERMS, STEP_PARTS,
+    age_within, exponent_parts, least_n, least_remainder, temperature_factor, terms, within,
+    BILLION, MOST_TERMS, OLDEST, STEP_PARTS,
 };
 use crate::fraction::Fraction;
 use crate::memory;
 use crate::model::{
-    Field, Survival, EVAPOTRANSPIRATION, KEPT_LIMIT, LAND_NUMBERS, MONTH_LIMIT, OPEN_PAN,
-    OUTPUT_NUMBERS, RATES, WEATHER_NUMBERS,
+    Field, Survival, EVAPOTRANSPIRATION, FRESH, HIGHEST_ACTIVITY, KEPT_LIMIT, LAND_NUMBERS,
+    MONTH_LIMIT, OPEN_PAN, OUTPUT_NUMBERS, RATES, WEATHER_NUMBERS,
 };
 use crate::recurrence::{
     carbon_closes, demand_three, distance_exact, q_highest, q_lowest, Call as Answered, Decision,
@@ -30,13 +31,11 @@ use crate::table;
 use crate::vectors::{vectors, Draw};
 use std::collections::HashMap;
 
-/// What a function returns where lent memory of a fixed layout has another length.
-pub const WRONG_LENGTH: u64 = 100;
 /// The most bytes that are written for a book.
 pub const LONGEST_TEXT: usize = 204_800;
 
 /// The program under test, as include/rothc.h has it. Slices are lent memory of any length; each
-/// function but `survival` and `survival_terms` returns the refusal's number, 0 or `WRONG_LENGTH`.
+/// function that isn't for a survival number returns the refusal's number, 0 or `WRONG_SHAPE`.
 pub trait Program {
     fn start(&mut self, soil: &[u64], state: &mut [u64]) -> u64;
     fn month(&mut self, state: &mut [u64], number: u64, entries: &[i64], row: &mut [u64]) -> u64;
@@ -58,6 +57,8 @@ pub trait Program {
         result: &mut [u64],
     ) -> u64;
     fn take_back(&mut self, state: &mut [u64]) -> u64;
+    /// `report`: delta, whether there is an age, the age. `WRONG_SHAPE` for a pool above 5.
+    fn radiocarbon(&mut self, state: &[u64], pool: u64, report: &mut [i64]) -> u64;
     /// `length`: of the text, also where `out` is too short for it (8).
     fn book(&mut self, book: &[u8], out: &mut [u8], length: &mut u64) -> u64;
     /// `rows`: how many were written; `place`: the line, 0 for 3 and 8 and where it was read.
@@ -66,6 +67,8 @@ pub trait Program {
     fn survival(&mut self, n: u64, pool: u64) -> u64;
     /// The same number. `terms`: how many were summed; where there is no number they stay.
     fn survival_terms(&mut self, n: u64, pool: u64, terms: &mut u64) -> u64;
+    /// `NO_SURVIVAL` above 60,000 years.
+    fn age_survival(&mut self, years: u64) -> u64;
 }
 
 /// How much to compare.
@@ -84,6 +87,10 @@ pub struct Counts {
     pub takings_back: u64,
     /// Survival numbers with their terms.
     pub terms: u64,
+    /// Radiocarbon reports.
+    pub reports: u64,
+    /// Months, lists and spin-ups beside the same without activities and modern grams.
+    pub beside: u64,
     /// Accepted months of the long chain.
     pub chain: u64,
     /// Acts of each long chain with takings-back.
@@ -102,6 +109,8 @@ impl Default for Counts {
             histories: 60_000,
             takings_back: 40_000,
             terms: 24_000,
+            reports: 40_000,
+            beside: 12_000,
             chain: MONTH_LIMIT,
             taken_chain: 8_000,
         }
@@ -112,6 +121,7 @@ impl Default for Counts {
 struct Asked<'a> {
     program: &'a mut dyn Program,
     known: &'a mut HashMap<(u64, u64), u64>,
+    ages: &'a mut Vec<u64>,
     faults: &'a mut Vec<String>,
 }
 
@@ -134,6 +144,15 @@ impl Survival for Asked<'_> {
         }
         s.min(BILLION)
     }
+
+    /// As the program gave it when all ages were asked for.
+    fn age(&mut self, years: u64) -> u64 {
+        if self.ages.is_empty() {
+            let all = (0..=OLDEST).map(|years| self.program.age_survival(years));
+            self.ages.extend(all);
+        }
+        self.ages[years as usize]
+    }
 }
 
 /// The comparison: counts, the first inputs that differ, and what it needs to go on.
@@ -141,6 +160,8 @@ pub struct Differ<'a> {
     program: &'a mut dyn Program,
     draw: Draw,
     known: HashMap<(u64, u64), u64>,
+    /// The program's survival numbers of the ages.
+    ages: Vec<u64>,
     progress: &'a mut dyn FnMut(&str),
     pub compared: u64,
     pub differ: u64,
@@ -272,6 +293,16 @@ pub fn program_answer(
             }
             Ok([&numbers, state.take()?].concat())
         }
+        Call::Report { state, pool } => {
+            let mut lent = Lent::new(state);
+            let mut report = Lent::filled(fill as i64, REPORT_NUMBERS);
+            let number = program.radiocarbon(lent.get(), *pool, report.get());
+            if lent.take()? != state {
+                return Err("the lent state was written".into());
+            }
+            let report = report.take()?.iter().map(|number| *number as u64);
+            Ok([number].into_iter().chain(report).collect())
+        }
         Call::Table { room, table } => {
             let mut weather = Lent::filled(fill as i64, *room);
             let (mut rows, mut place) = (Lent::filled(fill, 1), Lent::filled(fill, 1));
@@ -297,6 +328,10 @@ pub fn program_answer(
             let own = program.survival_terms(*n, *pool, &mut terms.get()[0]);
             let same = own == program.survival(*n, *pool);
             Ok([&[close(own, *s), u64::from(same)], terms.take()?].concat())
+        }
+        Call::Age { years, s } => {
+            let own = program.age_survival(*years);
+            Ok(vec![close_age(*years, own, *s)])
         }
     }
 }
@@ -372,6 +407,7 @@ impl<'a> Differ<'a> {
             // Small seeds far apart.
             draw: Draw::new(seed.wrapping_mul(0x9e37_79b9_7f4a_7c15) ^ 0x1852),
             known: HashMap::new(),
+            ages: Vec::new(),
             progress,
             compared: 0,
             differ: 0,
@@ -383,6 +419,7 @@ impl<'a> Differ<'a> {
 
     /// Everything.
     pub fn run(&mut self, counts: &Counts) {
+        self.age_numbers();
         self.test_lines();
         self.factors();
         self.months(counts.months);
@@ -394,6 +431,8 @@ impl<'a> Differ<'a> {
         self.takings_back(counts.takings_back);
         self.histories(counts.histories);
         self.survival_terms(counts.terms);
+        self.reports(counts.reports);
+        self.beside(counts.beside);
         self.wrong_lengths();
         self.short_chains();
         self.long_chain(counts.chain, Plan::Mixed);
@@ -450,6 +489,7 @@ impl<'a> Differ<'a> {
         let mut asked = Asked {
             program: &mut *self.program,
             known: &mut self.known,
+            ages: &mut self.ages,
             faults: &mut faults,
         };
         let wanted = call.answer(fill, &mut asked, &mut |_, _| ());
@@ -482,6 +522,7 @@ impl<'a> Differ<'a> {
     fn new_state(&mut self, soil: SoilNumbers) -> Option<StateNumbers> {
         let mut right = [0; PLACES];
         right[..SOIL_NUMBERS].copy_from_slice(&soil);
+        right[MODERN..KEPT].copy_from_slice(&soil[POOLS..INERT]);
         self.call(&Call::New { soil })
             .filter(|state| state[..PLACES] == right)
     }
@@ -583,8 +624,37 @@ impl<'a> Differ<'a> {
         }
     }
 
-    /// The eleven numbers of such a state itself.
+    /// Modern grams of a state that 10 doesn't take: none, as many as grams, of any activity, or
+    /// anything up to the most.
+    fn modern(&mut self, state: &StateNumbers) -> [u64; 4] {
+        let most = most_modern(state[MONTHS]);
+        let pools: [u64; 4] = std::array::from_fn(|pool| state[POOLS + pool]);
+        let modern = match self.draw.below(8) {
+            0 => [0; 4],
+            1 => pools,
+            2 => {
+                let total = self.sized(most);
+                self.parts(total)
+            }
+            3 => self.parts(most),
+            _ => pools.map(|grams| grams * self.draw.below(2_001) / 1_000),
+        };
+        if modern.iter().sum::<u64>() > most {
+            pools
+        } else {
+            modern
+        }
+    }
+
+    /// The fifteen numbers of such a state itself.
     fn own_numbers(&mut self, state: &mut StateNumbers) {
+        self.carbon_numbers(state);
+        let modern = self.modern(state);
+        state[MODERN..KEPT].copy_from_slice(&modern);
+    }
+
+    /// The numbers before the modern grams.
+    fn carbon_numbers(&mut self, state: &mut StateNumbers) {
         state[..SOIL_NUMBERS].copy_from_slice(&self.soil());
         if self.draw.below(8) == 0 {
             return;
@@ -630,7 +700,16 @@ impl<'a> Differ<'a> {
         [temperature, rain, evaporation, source]
     }
 
-    /// Cover, plant and manure; together at most `room` grams, often just that.
+    /// An activity that nothing refuses.
+    fn activity(&mut self) -> i64 {
+        match self.draw.below(4) {
+            0 => self.pick(&[0, 1, 999, 1_000, 1_001, 1_999, 2_000]),
+            1 => FRESH,
+            _ => self.draw.between(0, HIGHEST_ACTIVITY),
+        }
+    }
+
+    /// Cover, plant and manure, together at most `room` grams, often just that; and activity.
     fn land(&mut self, room: u64) -> LandRow {
         const MOST: u64 = 100_000_000;
         let (plant, manure) = match self.draw.below(8) {
@@ -650,14 +729,23 @@ impl<'a> Differ<'a> {
             }
         };
         let cover = self.draw.between(0, 1);
-        [cover, plant as i64, manure as i64]
+        [cover, plant as i64, manure as i64, self.activity()]
     }
 
     fn entries(&mut self, state: &StateNumbers) -> EntryNumbers {
         let room = 1_000_000_000u64.saturating_sub(active(state));
         let [temperature, rain, evaporation, source] = self.weather();
-        let [cover, plant, manure] = self.land(room);
-        [temperature, rain, evaporation, source, cover, plant, manure]
+        let [cover, plant, manure, activity] = self.land(room);
+        [
+            temperature,
+            rain,
+            evaporation,
+            source,
+            cover,
+            plant,
+            manure,
+            activity,
+        ]
     }
 
     /// An unsigned number that may be out of its bounds: beside a bound, or at an end.
@@ -727,6 +815,18 @@ impl<'a> Differ<'a> {
                     .fold(0u64, |sum, grams| sum.wrapping_add(*grams));
                 self.wild(&[bound.wrapping_sub(pools), bound, 0u64.wrapping_sub(pools)])
             }
+            // Modern grams: beside what the limit leaves, or such that the sum wraps.
+            MODERN..KEPT => {
+                let bound = 400_000_000u64
+                    .wrapping_mul(state[MONTHS])
+                    .wrapping_add(1_000_000_000);
+                let rest = state[MODERN..KEPT]
+                    .iter()
+                    .fold(0u64, |sum, grams| sum.wrapping_add(*grams))
+                    .wrapping_sub(state[place]);
+                let left = bound.wrapping_sub(rest);
+                self.wild(&[left, left, 0u64.wrapping_sub(rest)])
+            }
             // A pool: beside what the ceiling leaves, or such that the sum wraps.
             _ => {
                 let rest = state[POOLS..INERT]
@@ -744,6 +844,7 @@ impl<'a> Differ<'a> {
             TEMPERATURE => self.wild_signed(&[-400, 500, -50]),
             RAIN | EVAPORATION => self.wild_signed(&[0, 20_000]),
             SOURCE | COVER => self.wild_signed(&[0, 1]),
+            ACTIVITY => self.wild_signed(&[0, HIGHEST_ACTIVITY]),
             _ => {
                 let other = entries[PLANT + MANURE - place];
                 let pools = state[POOLS..INERT]
@@ -906,6 +1007,7 @@ impl<'a> Differ<'a> {
                     (true, TEMPERATURE) => self.wild_signed(&[-400, 500]),
                     (true, SOURCE) | (false, 0) => self.wild_signed(&[0, 1]),
                     (true, _) => self.wild_signed(&[0, 20_000]),
+                    (false, 3) => self.wild_signed(&[0, HIGHEST_ACTIVITY]),
                     (false, _) => self.wild_signed(&[0, 100_000_000]),
                 };
             }
@@ -954,9 +1056,9 @@ impl<'a> Differ<'a> {
                     1 => land.push(extra),
                     2 => drop(weather.pop()),
                     3 => drop(land.pop()),
-                    // As many numbers as the other kind of row has.
-                    4 => weather.truncate(rows * LAND_NUMBERS),
-                    _ => land.resize(months * WEATHER_NUMBERS, 0),
+                    // Three numbers a row.
+                    4 => weather.truncate(rows * 3),
+                    _ => land.truncate(months * 3),
                 }
             }
             let exact = months * OUTPUT_NUMBERS;
@@ -980,7 +1082,7 @@ impl<'a> Differ<'a> {
     fn spin_ups(&mut self, count: u64) {
         for done in 0..count {
             let mut rows = || match self.draw.below(16) {
-                // 9 weather rows are 36 numbers, 16 land rows 48.
+                // 9 rows are 36 numbers, three a month.
                 0 => self.pick(&[0, 9, 11, 13, 16, 24]),
                 _ => 12,
             };
@@ -1019,6 +1121,7 @@ impl<'a> Differ<'a> {
         let mut asked = Asked {
             program: &mut *self.program,
             known: &mut self.known,
+            ages: &mut self.ages,
             faults: &mut faults,
         };
         let answer = book::read(bytes, &mut asked);
@@ -1049,7 +1152,8 @@ impl<'a> Differ<'a> {
             && faults.is_empty();
         self.outcome(same, || {
             format!(
-                "book:   {}\nroom:   {room}\nnumber and length wanted {wanted_number} {}, given {given_number} {given_length:?}\nS: {faults:?}\nwanted: {}\ngiven:  {}",
+                "book:   {}\nroom:   {room}\nnumber and length wanted {wanted_number} {}, \
+                 given {given_number} {given_length:?}\nS: {faults:?}\nwanted: {}\ngiven:  {}",
                 shown(bytes),
                 text.len(),
                 shown(&wanted[..wanted.len().min(4_000)]),
@@ -1058,12 +1162,14 @@ impl<'a> Differ<'a> {
         });
     }
 
-    /// An example book with the output that stands beside it: the reference, with the program's S, has to write the same.
+    /// An example book with the output that stands beside it: the reference, with the program's S,
+    /// has to write the same.
     pub fn example(&mut self, name: &str, bytes: &[u8], output: &[u8]) {
         let mut faults = Vec::new();
         let mut asked = Asked {
             program: &mut *self.program,
             known: &mut self.known,
+            ages: &mut self.ages,
             faults: &mut faults,
         };
         let text = book::run(bytes, &mut asked);
@@ -1096,7 +1202,7 @@ impl<'a> Differ<'a> {
         let largest = self.pick(&[1_000, 1_000_000, 30_000_000]);
         for _ in 0..fields {
             let room = self.draw.below(largest + 1);
-            push_row(&mut text, &self.land(room));
+            push_row(&mut text, &self.land(room)[..3]);
         }
         text.into_bytes()
     }
@@ -1275,6 +1381,7 @@ impl<'a> Differ<'a> {
         let mut asked = Asked {
             program: &mut *self.program,
             known: &mut self.known,
+            ages: &mut self.ages,
             faults: &mut Vec::new(),
         };
         let length = book::run(book, &mut asked).len();
@@ -1438,7 +1545,7 @@ impl<'a> Differ<'a> {
                 0 => exact.saturating_sub(1),
                 1 => self.draw.below(exact as u64 + 1) as usize,
                 2 => exact + self.draw.below(30) as usize,
-                3 => exact / WEATHER_NUMBERS * LAND_NUMBERS,
+                3 => exact / WEATHER_NUMBERS * 3,
                 _ => exact,
             };
             kinds[2 + usize::from(room < exact)] += 1;
@@ -1640,6 +1747,7 @@ impl<'a> Differ<'a> {
         let mut asked = Asked {
             program: &mut *self.program,
             known: &mut self.known,
+            ages: &mut self.ages,
             faults: &mut Vec::new(),
         };
         match call {
@@ -1756,10 +1864,304 @@ impl<'a> Differ<'a> {
         ));
     }
 
+    // ---- Radiocarbon ----
+
+    /// The survival numbers of all 60,001 ages: at most 1 from the exact one, exact at 0 and never
+    /// rising; none beyond.
+    fn age_numbers(&mut self) {
+        self.ages.clear();
+        let mut before = BILLION;
+        for years in 0..=OLDEST {
+            let s = self.program.age_survival(years);
+            let same = age_within(s, years, 1) && s <= before;
+            self.outcome(same, || {
+                format!("S of age {years}: {s}, {before} the year before")
+            });
+            self.ages.push(s);
+            before = s;
+        }
+        for years in [
+            OLDEST + 1,
+            OLDEST + 2,
+            65_536,
+            120_000,
+            1 << 32,
+            (1 << 32) + 1,
+        ]
+        .into_iter()
+        .chain([1 << 63, u64::MAX - 1, u64::MAX])
+        {
+            let s = self.program.age_survival(years);
+            self.outcome(s == NO_SURVIVAL, || format!("S of age {years}: {s}"));
+        }
+        self.say("the survival numbers of all ages".into());
+    }
+
+    /// A state that nothing refuses and that has so many grams and modern grams in what is asked.
+    /// IOM has its own, so only grams count there.
+    fn weighed_state(&mut self, pool: u64, carbon: u64, modern: u64) -> StateNumbers {
+        let mut state = self.state();
+        state[CO2] = 0;
+        let (mut pools, mut weights) = ([0; 4], [0; 4]);
+        match pool {
+            ALL => {
+                // IOM takes what the active pools can't hold, or more.
+                let least = carbon.saturating_sub(1_000_000_000);
+                let most = carbon.min(1_000_000_000);
+                let mut inert = least + self.sized(most - least);
+                if self.draw.below(3) == 0 || inert * 2 / 1_000 > modern {
+                    inert = least;
+                }
+                state[INERT] = inert;
+                pools = self.parts(carbon - inert);
+                weights = self.parts(modern.saturating_sub(inert * 2 / 1_000));
+            }
+            4 => state[INERT] = carbon,
+            _ => {
+                let others = self.sized(1_000_000_000 - carbon);
+                let rest = self.parts(others);
+                for index in 0..4 {
+                    pools[index] = if rest[pool as usize] == 0 {
+                        rest[index]
+                    } else {
+                        0
+                    };
+                }
+                pools[pool as usize] = carbon;
+                weights[pool as usize] = modern;
+            }
+        }
+        state[POOLS..INERT].copy_from_slice(&pools);
+        state[MODERN..KEPT].copy_from_slice(&weights);
+        if weights.iter().sum::<u64>() > most_modern(state[MONTHS]) {
+            state[MONTHS] = MONTH_LIMIT;
+        }
+        state
+    }
+
+    /// Grams and modern grams whose ratio is at or beside the survival number of an age, or at the
+    /// ends of what has an age.
+    fn at_an_age(&mut self, most: u64) -> (u64, u64) {
+        let carbon = match self.draw.below(8) {
+            0 => most,
+            1 => 1_000_000_000,
+            _ => self.sized(most).max(1),
+        };
+        let modern = match self.draw.below(10) {
+            0 => self.pick(&[carbon - 1, carbon, carbon + 1]),
+            1 => self.draw.below(4),
+            2 => self.sized(most_modern(MONTH_LIMIT)),
+            _ => {
+                let years = match self.draw.below(4) {
+                    0 => self.pick(&[0, 1, 2, 5_569, 49_934, 49_935, 59_999, 60_000]),
+                    _ => self.draw.below(OLDEST + 1),
+                };
+                let product = self.ages[years as usize].min(BILLION) as u128 * carbon as u128;
+                let floor = (product / BILLION as u128) as u64;
+                let edge = floor + self.draw.below(2) * u64::from(product % BILLION as u128 > 0);
+                match self.draw.below(6) {
+                    0 => edge + 1,
+                    1 => edge.saturating_sub(1),
+                    _ => edge,
+                }
+            }
+        };
+        (carbon, modern)
+    }
+
+    /// Reports: at the edges of ages, of states as they come, of states that are refused, of pools
+    /// without carbon and of pools that there aren't.
+    fn reports(&mut self, count: u64) {
+        if self.ages.is_empty() {
+            self.age_numbers();
+        }
+        let mut kinds = [0u64; 3];
+        for _ in 0..count {
+            let pool = self.draw.below(6);
+            let (mut state, mut asked) = match self.draw.below(8) {
+                0..=4 => {
+                    let most = if pool == ALL {
+                        2_000_000_000
+                    } else {
+                        1_000_000_000
+                    };
+                    let (carbon, modern) = self.at_an_age(most);
+                    (self.weighed_state(pool, carbon, modern), pool)
+                }
+                5 => (self.weighed_state(pool, 0, 0), pool),
+                _ => (self.start(), pool),
+            };
+            match self.draw.below(12) {
+                0 => self.spoil_state(&mut state),
+                1 => asked = self.wild(&[5]),
+                2 if self.draw.below(4) == 0 => state[MONTHS] = MONTH_LIMIT,
+                _ => (),
+            }
+            let call = Call::Report { state, pool: asked };
+            self.call(&call);
+            let Ok(answer) = program_answer(self.program, &call, 7) else {
+                continue;
+            };
+            if answer[0] == 0 && answer[2] < 3 {
+                kinds[answer[2] as usize] += 1;
+                // The survival numbers beside the age are still the same.
+                let years = answer[3].min(OLDEST);
+                for years in [years.saturating_sub(1), years] {
+                    let s = self.program.age_survival(years);
+                    let same = s == self.ages[years as usize];
+                    self.outcome(same, || format!("S of age {years} is now {s}"));
+                }
+            }
+        }
+        let [dated, older, newer] = kinds;
+        self.say(format!(
+            "reports: {count}, {dated} with an age, {older} older, {newer} newer; {}",
+            self.answers("report")
+        ));
+    }
+
+    /// Modern grams never touch carbon: months, lists and spin-ups, each beside the same without
+    /// activities and modern grams (1000 and 0). Up to the first refusal by 21, or by 10 for modern
+    /// grams, all numbers but the modern grams are equal.
+    fn beside(&mut self, count: u64) {
+        let mut cut = [0u64; 2];
+        for round in 0..count {
+            let call = if round % 2 == 0 {
+                self.month_call()
+            } else {
+                let state = self.start();
+                self.act(&state)
+            };
+            let plain = self.reweighed(&call, false);
+            let other = self.reweighed(&call, true);
+            let fill = self.fill();
+            for call in [&plain, &other] {
+                self.call(call);
+            }
+            let answers = [&plain, &other].map(|call| program_answer(self.program, call, fill));
+            let [Ok(one), Ok(two)] = &answers else {
+                self.outcome(false, || format!("{answers:?}"));
+                continue;
+            };
+            let before = other.state().expect("a state was lent");
+            let same = match two[0] {
+                21 => {
+                    cut[0] += 1;
+                    self.same_before(&plain, &other, one, two)
+                }
+                10 if one[0] != 10 => {
+                    cut[1] += 1;
+                    let modern = before[MODERN..KEPT].iter().map(|grams| *grams as u128);
+                    let limit = 1_000_000_000 + 400_000_000 * before[MONTHS] as u128;
+                    let at = other.state_at().expect("an answer with a state");
+                    modern.sum::<u128>() > limit && two[at..at + STATE_NUMBERS] == before[..]
+                }
+                _ => without_modern(&plain, one) == without_modern(&other, two),
+            };
+            self.outcome(same, || {
+                format!(
+                    "without activities: {}
+{one:?}
+with them: {}
+{two:?}",
+                    plain.line(),
+                    other.line()
+                )
+            });
+        }
+        let [by_activity, by_modern] = cut;
+        self.say(format!(
+            "calls beside the same without activities: {count}, {by_activity} cut short by 21 and \
+             {by_modern} by 10 for modern grams"
+        ));
+    }
+
+    /// The call with activity 1000 everywhere and no modern grams, or with others, some of them
+    /// refused.
+    fn reweighed(&mut self, call: &Call, others: bool) -> Call {
+        let mut call = call.clone();
+        let wild = self.draw.below(6);
+        let (state, activities): (&mut StateNumbers, Vec<&mut i64>) = match &mut call {
+            Call::Month { state, entries, .. } => (state, vec![&mut entries[ACTIVITY]]),
+            Call::List { state, land, .. } | Call::SpinUp { state, land, .. } => (
+                state,
+                land.iter_mut().skip(3).step_by(LAND_NUMBERS).collect(),
+            ),
+            _ => panic!("a call with entries"),
+        };
+        let one = self.draw.below(activities.len().max(1) as u64) as usize;
+        for (index, activity) in activities.into_iter().enumerate() {
+            *activity = match others {
+                false => FRESH,
+                true if wild == 0 && index == one => self.wild_signed(&[0, HIGHEST_ACTIVITY]),
+                true => self.activity(),
+            };
+        }
+        state[MODERN..KEPT].fill(0);
+        if others {
+            // States that are refused for another number may have any months.
+            let mut sound = *state;
+            sound[MONTHS] = sound[MONTHS].min(MONTH_LIMIT);
+            for pool in 0..4 {
+                sound[POOLS + pool] = sound[POOLS + pool].min(250_000_000);
+            }
+            let modern = self.modern(&sound);
+            state[MODERN..KEPT].copy_from_slice(&modern);
+            if wild == 1 {
+                let pool = self.draw.below(4) as usize;
+                let bound = most_modern(sound[MONTHS]);
+                state[MODERN + pool] = self.wild(&[bound]);
+            }
+        }
+        call
+    }
+
+    /// A call refused by 21 at its month j: its rows before j, and the carbon of its state, are
+    /// those of the first j - 1 months without activities.
+    fn same_before(&mut self, plain: &Call, other: &Call, one: &[u64], two: &[u64]) -> bool {
+        let before = other.state().expect("a state was lent");
+        let at = other.state_at().expect("an answer with a state");
+        let kept = &two[at..at + STATE_NUMBERS];
+        let Call::List {
+            weather,
+            land,
+            state,
+            ..
+        } = plain
+        else {
+            // A month and a spin-up leave the state that they were given.
+            return kept == &before[..];
+        };
+        let ran = two[1] as usize - 1;
+        let rows = |answer: &[u64]| {
+            let from = at + STATE_NUMBERS;
+            answer[from..from + ran * OUTPUT_NUMBERS].to_vec()
+        };
+        if rows(one) != rows(two) {
+            return false;
+        }
+        if ran == 0 {
+            return kept == &before[..];
+        }
+        let short = Call::List {
+            weather: weather.clone(),
+            land: land[..ran * LAND_NUMBERS].to_vec(),
+            output: ran * OUTPUT_NUMBERS,
+            state: *state,
+        };
+        let Ok(alone) = program_answer(self.program, &short, 0) else {
+            return false;
+        };
+        let mut with = [&[0, 0][..], kept].concat();
+        with.extend(rows(two));
+        without_modern(&short, &alone) == without_modern(&short, &with)
+    }
+
     // ---- Wrong lengths ----
 
     /// Lent memory of a fixed layout with another length: 100, and nothing written, whatever the
-    /// numbers in it. And n or a pool for which there is no survival number.
+    /// numbers in it; so too a report on a pool above 5. And n or a pool for which there is no
+    /// survival number.
     fn wrong_lengths(&mut self) {
         for round in 0..40 {
             let mut state = self.state();
@@ -1773,19 +2175,20 @@ impl<'a> Differ<'a> {
             let weather = self.row_numbers(rows_each.0, 20, true, 0);
             let land = self.row_numbers(rows_each.1, 20, false, 1_000);
             for length in [
-                0, 1, 2, 3, 5, 6, 7, 8, 9, 10, 11, 12, 13, 22, 100, 264, 275, 276, 277, 552,
+                0, 1, 2, 3, 4, 5, 6, 7, 8, 9, 11, 12, 14, 15, 16, 17, 100, 276, 375, 376, 377, 752,
             ] {
                 let numbers: Vec<u64> = state.iter().cycle().take(length).copied().collect();
                 let signed: Vec<i64> = entries.iter().cycle().take(length).copied().collect();
                 let number = state[MONTHS].wrapping_add(1);
                 let fill = self.draw.next();
-                // Which memory has the wrong length.
-                for which in 0..9 {
+                // Which memory has the wrong length; 11: which pool there isn't.
+                for which in 0..12 {
                     let right = match which {
                         0 => SOIL_NUMBERS,
                         3 => ENTRY_NUMBERS,
                         4 => OUTPUT_NUMBERS,
                         7 => 2,
+                        10 => REPORT_NUMBERS,
                         _ => STATE_NUMBERS,
                     };
                     if length == right {
@@ -1798,6 +2201,10 @@ impl<'a> Differ<'a> {
                     let mut rows = Lent::filled(fill, 84);
                     let mut place = Lent::filled(fill, 1);
                     let mut result = Lent::filled(fill, 2);
+                    let mut report = Lent::filled(fill as i64, REPORT_NUMBERS);
+                    let mut other = Lent::new(&signed);
+                    let pool = self.draw.below(6);
+                    let none = 6 + self.draw.below(u64::MAX - 5);
                     let program = &mut *self.program;
                     let answer = match which {
                         0 => program.start(&numbers, own.get()),
@@ -1811,18 +2218,27 @@ impl<'a> Differ<'a> {
                         }
                         6 => program.spin_up(given.get(), &weather, &land, 2, result.get()),
                         8 => program.take_back(given.get()),
+                        9 => program.radiocarbon(given.get(), pool, report.get()),
+                        10 => program.radiocarbon(own.get(), pool, other.get()),
+                        11 => {
+                            let pool = [6, 7, none, u64::MAX][length % 4];
+                            program.radiocarbon(own.get(), pool, report.get())
+                        }
                         _ => program.spin_up(own.get(), &weather, &land, 2, given.get()),
                     };
-                    let same = answer == WRONG_LENGTH
+                    let same = answer == WRONG_SHAPE
                         && own.take() == Ok(&state)
                         && given.take() == Ok(&numbers)
                         && row.take() == Ok(&[fill; OUTPUT_NUMBERS])
                         && rows.take() == Ok(&[fill; 84])
                         && place.take() == Ok(&[fill])
-                        && result.take() == Ok(&[fill; 2]);
+                        && result.take() == Ok(&[fill; 2])
+                        && report.take() == Ok(&[fill as i64; REPORT_NUMBERS])
+                        && other.take() == Ok(&signed);
                     self.outcome(same, || {
                         format!(
-                            "length {length} for memory {which}: {answer}, state {state:?}, entries {entries:?}, {given:?} {row:?} {place:?} {result:?}"
+                            "length {length} for memory {which}: {answer}, state {state:?}, \
+                             entries {entries:?}, {given:?} {row:?} {place:?} {result:?} {report:?}"
                         )
                     });
                 }
@@ -1894,6 +2310,7 @@ impl<'a> Differ<'a> {
                 let mut asked = Asked {
                     program: &mut *self.program,
                     known: &mut self.known,
+                    ages: &mut self.ages,
                     faults: &mut faults,
                 };
                 let mut mix = Draw::new(turn ^ round);
@@ -2065,6 +2482,7 @@ impl<'a> Differ<'a> {
         let mut asked = Asked {
             program: &mut *self.program,
             known: &mut self.known,
+            ages: &mut self.ages,
             faults: &mut faults,
         };
         let demand = demand_three(&soil_of(&soil), &calls, &state_of(state), &mut asked);
@@ -2135,6 +2553,7 @@ impl<'a> Differ<'a> {
             let mut asked = Asked {
                 program: &mut *self.program,
                 known: &mut self.known,
+                ages: &mut self.ages,
                 faults: &mut faults,
             };
             let s: [u64; 4] = RATES.map(|k| asked.survival(n, k));
@@ -2166,7 +2585,10 @@ impl<'a> Differ<'a> {
                 for (index, run) in runs.iter().enumerate() {
                     let holds = run.decide(&grams) == Decision::Holds;
                     self.outcome(holds, || {
-                        format!("demand 3 (b), {plan:?}, q {index}, after {accepted} accepted: {soil:?}, {state:?}")
+                        format!(
+                            "demand 3 (b), {plan:?}, q {index}, after {accepted} accepted: \
+                             {soil:?}, {state:?}"
+                        )
                     });
                     let most = run.distance(&grams).1.to_u128().unwrap_or(u128::MAX);
                     let a_call = (most >> 32) * 1_000 / accepted as u128 >> 32;
@@ -2227,6 +2649,23 @@ fn push_row<T: ToString>(text: &mut String, row: &[T]) {
     text.push('\n');
 }
 
+/// An answer with 0 for all modern grams of its state, current and kept.
+fn without_modern(call: &Call, answer: &[u64]) -> Vec<u64> {
+    let at = call.state_at().expect("an answer with a state");
+    let mut answer = answer.to_vec();
+    let state = &mut answer[at..at + STATE_NUMBERS];
+    state[MODERN..KEPT].fill(0);
+    for place in state[PLACES..].chunks_mut(OWN_NUMBERS) {
+        place[MODERN..].fill(0);
+    }
+    answer
+}
+
+/// The most modern grams of a state with so many months, at most 120,000, that 10 doesn't take.
+fn most_modern(months: u64) -> u64 {
+    1_000_000_000 + 400_000_000 * months.min(MONTH_LIMIT)
+}
+
 fn deficit_limit(state: &[u64]) -> u64 {
     soil_of(state).deficit_limit() as u64
 }
@@ -2240,7 +2679,7 @@ fn active(state: &StateNumbers) -> u64 {
 #[cfg(test)]
 mod tests {
     use super::*;
-    use crate::exponential::survival_floor;
+    use crate::exponential::{age_floor, survival_floor};
 
     /// The reference itself with S rounded down, and on request with a slip.
     struct Own {
@@ -2250,8 +2689,22 @@ mod tests {
     impl Own {
         fn answer(&self, call: &Call) -> Vec<u64> {
             let far = self.slip == "S two off";
-            let mut survival = |n: u64, k: u64| own_survival(n, k, far);
-            call.answer(GUARD, &mut survival, &mut |_, _| ())
+            call.answer(GUARD, &mut OwnSurvival { far }, &mut |_, _| ())
+        }
+    }
+
+    /// Rounded down, of months and of ages.
+    struct OwnSurvival {
+        far: bool,
+    }
+
+    impl Survival for OwnSurvival {
+        fn survival(&mut self, n: u64, k: u64) -> u64 {
+            own_survival(n, k, self.far)
+        }
+
+        fn age(&mut self, years: u64) -> u64 {
+            age_floor(years)
         }
     }
 
@@ -2276,7 +2729,7 @@ mod tests {
     impl Program for Own {
         fn start(&mut self, soil: &[u64], state: &mut [u64]) -> u64 {
             let (Ok(soil), STATE_NUMBERS) = (soil.try_into(), state.len()) else {
-                return WRONG_LENGTH;
+                return WRONG_SHAPE;
             };
             let answer = self.answer(&Call::New { soil });
             write(state, &answer[1..]);
@@ -2298,7 +2751,7 @@ mod tests {
                 <EntryNumbers>::try_from(entries),
                 row.len(),
             ) else {
-                return WRONG_LENGTH;
+                return WRONG_SHAPE;
             };
             let answer = self.answer(&Call::Month {
                 state: lent,
@@ -2312,6 +2765,29 @@ mod tests {
             }
             if self.slip == "a gram" && answer[0] == 0 && lent[CLAY] == 77 {
                 state[CO2] += 1;
+            }
+            if answer[0] == 0 {
+                match self.slip {
+                    "a modern gram" if lent[MODERN + 3] % 7 == 3 => state[MODERN + 3] += 1,
+                    "modern in carbon" if entries[ACTIVITY] > 1_990 => state[CO2] += 1,
+                    "kept modern" => {
+                        let place = memory::place(lent[MONTHS]);
+                        state[place][MODERN..].copy_from_slice(&lent[MODERN - 1..KEPT - 1]);
+                    }
+                    _ => (),
+                }
+            }
+            let room = 1_000_000_000u64.saturating_sub(active(&lent)) as i64;
+            let wrapped = lent[MODERN..KEPT]
+                .iter()
+                .fold(0u64, |sum, grams| sum.wrapping_add(*grams));
+            match (self.slip, answer[0]) {
+                ("21 after 17", 21) if entries[PLANT] + entries[MANURE] > room => return 17,
+                ("10 wraps", 10) if wrapped < 1_000_000_000 && lent[MONTHS] <= 120_000 => {
+                    return 11
+                }
+                ("activity 2001", 21) if entries[ACTIVITY] == 2_001 => return 0,
+                _ => (),
             }
             if self.slip == "refused row" && answer[0] == 17 {
                 row[0] = lent[POOLS];
@@ -2337,7 +2813,7 @@ mod tests {
             place: &mut u64,
         ) -> u64 {
             let Ok(lent) = <StateNumbers>::try_from(&*state) else {
-                return WRONG_LENGTH;
+                return WRONG_SHAPE;
             };
             let answer = self.answer(&Call::List {
                 weather: weather.to_vec(),
@@ -2348,10 +2824,13 @@ mod tests {
             *place = answer[1];
             write(state, &answer[2..2 + STATE_NUMBERS]);
             write(rows, &answer[2 + STATE_NUMBERS..]);
+            if self.slip == "modern in rows" && answer[0] == 0 && lent[MODERN] > lent[POOLS] {
+                rows[0] += 1;
+            }
             if self.slip == "list's count" && answer[0] == 17 && *place > 1 {
                 state[KEPT] -= 1;
             }
-            if self.slip == "rest" && answer[0] == 0 && rows.len() > land.len() / 3 * 7 {
+            if self.slip == "rest" && answer[0] == 0 && rows.len() > land.len() / LAND_NUMBERS * 7 {
                 *rows.last_mut().unwrap() ^= 1;
             }
             answer[0]
@@ -2366,7 +2845,7 @@ mod tests {
             result: &mut [u64],
         ) -> u64 {
             let (Ok(lent), 2) = (<StateNumbers>::try_from(&*state), result.len()) else {
-                return WRONG_LENGTH;
+                return WRONG_SHAPE;
             };
             let answer = self.answer(&Call::SpinUp {
                 weather: weather.to_vec(),
@@ -2384,7 +2863,7 @@ mod tests {
 
         fn take_back(&mut self, state: &mut [u64]) -> u64 {
             let Ok(lent) = <StateNumbers>::try_from(&*state) else {
-                return WRONG_LENGTH;
+                return WRONG_SHAPE;
             };
             match self.slip {
                 "taking back asks the soil" if lent[KEPT] > 0 && lent[CLAY] > 1_000 => return 4,
@@ -2401,6 +2880,47 @@ mod tests {
                 state[memory::place(lent[MONTHS] % 24 + 23)].fill(0);
             }
             answer[0]
+        }
+
+        fn radiocarbon(&mut self, state: &[u64], pool: u64, report: &mut [i64]) -> u64 {
+            let (Ok(state), 3) = (<StateNumbers>::try_from(state), report.len()) else {
+                return WRONG_SHAPE;
+            };
+            let pool = match (self.slip, pool) {
+                ("pool 6", 6) => ALL,
+                _ => pool,
+            };
+            let answer = self.answer(&Call::Report { state, pool });
+            if self.slip == "22 before 10" && answer[0] == 10 && pool < 4 {
+                if state[POOLS + pool as usize] == 0 {
+                    return 22;
+                }
+            }
+            if answer[0] != 0 {
+                return answer[0];
+            }
+            for (to, from) in report.iter_mut().zip(&answer[1..]) {
+                *to = *from as i64;
+            }
+            match self.slip {
+                "delta towards 0" if report[0] < 0 && pool < 4 => report[0] += 1,
+                "age a year late" if report[1] == 0 && report[2] % 977 == 5 => report[2] += 1,
+                "60,000 is older" if report[1..] == [0, 60_000] => report[1..].fill(1),
+                "age where newer" if report[1] == 2 => report[2] = 1,
+                "equal is newer" if report[..2] == [0, 0] => report[1] = 2,
+                "IOM rounded up" if pool == 4 && state[INERT] % 500 > 0 => report[0] += 1,
+                _ => (),
+            }
+            0
+        }
+
+        fn age_survival(&mut self, years: u64) -> u64 {
+            match (self.slip, years) {
+                (_, OLDEST..) if years > OLDEST => NO_SURVIVAL,
+                ("an age's S two off", 31_415) => age_floor(years) - 2,
+                ("an age's S rises", 59_990) => age_floor(years) + 80,
+                _ => age_floor(years),
+            }
         }
 
         fn book(&mut self, book: &[u8], out: &mut [u8], length: &mut u64) -> u64 {
@@ -2485,6 +3005,8 @@ mod tests {
             histories: 3_000,
             takings_back: 2_000,
             terms: 2_000,
+            reports: 3_000,
+            beside: 1_500,
             chain: 1_500,
             taken_chain: 1_000,
         });
@@ -2499,11 +3021,12 @@ mod tests {
         let (compared, differ, seen) = compare("");
         assert_eq!(differ, 0);
         assert!(compared > 15_000);
-        let months = [0, 4, 5, 6, 7, 10, 11, 12, 13, 14, 19, 15, 16, 17];
-        let lists = [0, 3, 4, 5, 6, 7, 8, 10, 12, 13, 14, 19, 15, 16, 17];
-        let spin_ups = [0, 3, 4, 5, 6, 7, 9, 10, 12, 13, 14, 19, 15, 16, 17];
+        let months = [0, 4, 5, 6, 7, 10, 11, 12, 13, 14, 19, 15, 16, 21, 17];
+        let lists = [0, 3, 4, 5, 6, 7, 8, 10, 12, 13, 14, 19, 15, 16, 21, 17];
+        let spin_ups = [0, 3, 4, 5, 6, 7, 9, 10, 12, 13, 14, 19, 15, 16, 21, 17];
         let books = [0, 1, 2, 3, 4, 5, 6, 7, 8, 13, 14, 15, 16, 17];
-        let wanted: [(&str, &[u64]); 8] = [
+        let wanted: [(&str, &[u64]); 9] = [
+            ("report", &[0, 4, 5, 6, 7, 10, 22, 100]),
             ("new state", &[0, 4, 5, 6, 7]),
             ("month", &months),
             ("list", &lists),
@@ -2540,6 +3063,56 @@ mod tests {
             differ.takings_back(3_000);
             differ.histories(6_000);
             assert!(differ.differ > 0, "{slip}");
+        }
+    }
+
+    /// Slips in modern grams and reports are found without the test lines.
+    #[test]
+    fn slips_of_radiocarbon_differ() {
+        for slip in [
+            "",
+            "a modern gram",
+            "modern in carbon",
+            "modern in rows",
+            "kept modern",
+            "21 after 17",
+            "10 wraps",
+            "activity 2001",
+            "pool 6",
+            "22 before 10",
+            "delta towards 0",
+            "age a year late",
+            "60,000 is older",
+            "age where newer",
+            "equal is newer",
+            "IOM rounded up",
+            "an age's S two off",
+            "an age's S rises",
+        ] {
+            let mut own = Own { slip };
+            let mut quiet = |_: &str| ();
+            let mut differ = Differ::new(&mut own, 5, &mut quiet);
+            differ.reports(3_000);
+            differ.beside(3_000);
+            assert_eq!(
+                differ.differ > 0,
+                !slip.is_empty(),
+                "{slip}: {:?}",
+                differ.first
+            );
+        }
+    }
+
+    /// The comparison without activities finds carbon that moves with them by itself.
+    #[test]
+    fn carbon_beside_differs() {
+        for slip in ["modern in carbon", "modern in rows"] {
+            let mut own = Own { slip };
+            let mut quiet = |_: &str| ();
+            let mut differ = Differ::new(&mut own, 5, &mut quiet);
+            differ.beside(3_000);
+            let beside = differ.first.iter().any(|text| text.starts_with("without"));
+            assert!(differ.differ > 0 && beside, "{slip}");
         }
     }
 

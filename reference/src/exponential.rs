@@ -1,9 +1,11 @@
-//! Steps 1, 2 and 4: everything that needs e^(-w). Whole numbers decide, never a float.
+//! Steps 1, 2 and 4, and change 2026-04's ages: everything that needs e^(-w). Whole numbers decide,
+//! never a float.
 //!
 //! The one fact used: for a fraction w of 0 or more, e^(-w) lies at or below each sum
 //! 1 - w + w²/2 - ... that ends on a plus term and at or above each that ends on a minus term.
 //!
-//! Change 2026-03's number of terms stands below step 4, as include/rothc.h counts them.
+//! Change 2026-04's ages and change 2026-03's number of terms, which is as include/rothc.h counts
+//! them, stand below step 4.
 
 use crate::big::{Integer, Natural};
 use crate::fraction::Fraction;
@@ -167,15 +169,15 @@ pub fn clay_factor(clay: i64) -> u64 {
 
 const POINT: u32 = 72;
 
-/// A bracket of 2^72 × e^(-w), w = product / 1,200,000,000,000 of at most 8, in whole numbers.
+/// A bracket of 2^72 × e^(-w), w = top / bottom of at most 8, in whole numbers.
 ///
 /// Rigorous: `low` and `high` enclose each term w^m / m! × 2^72. From one term to the next the
-/// enclosure is multiplied by product / (1,200,000,000,000 × m), `low` rounded down and `high`
-/// up. A sum ending on a minus term is at least the low plus terms less the high minus terms,
-/// one ending on a plus term at most the high plus terms less the low minus terms.
-/// Terms are at most 8^8 / 8! < 2^9, so high × product < 2^(81 + 44) fits in 128 bits
-/// (and the build checks for overflow).
-fn point_bracket(product: u128) -> (i128, i128) {
+/// enclosure is multiplied by top / (bottom × m), `low` rounded down and `high` up. A sum ending on
+/// a minus term is at least the low plus terms less the high minus terms, one ending on a plus term
+/// at most the high plus terms less the low minus terms.
+/// Terms are at most 8^8 / 8! < 2^9, and a bottom of up to 1,200,000,000,000 has a top below 2^44,
+/// so high × top < 2^(81 + 44) fits in 128 bits (and the build checks for overflow).
+fn point_bracket(top: u128, bottom: u128) -> (i128, i128) {
     let (mut low, mut high) = (1u128 << POINT, 1u128 << POINT);
     let (mut plus_low, mut plus_high) = (low, high);
     let (mut minus_low, mut minus_high) = (0u128, 0u128);
@@ -183,16 +185,16 @@ fn point_bracket(product: u128) -> (i128, i128) {
     loop {
         // A minus term, then a plus term.
         term += 1;
-        let divisor = EXPONENT_PARTS as u128 * term;
-        low = low * product / divisor;
-        high = (high * product).div_ceil(divisor);
+        let divisor = bottom * term;
+        low = low * top / divisor;
+        high = (high * top).div_ceil(divisor);
         minus_low += low;
         minus_high += high;
         let below = plus_low as i128 - minus_high as i128;
         term += 1;
-        let divisor = EXPONENT_PARTS as u128 * term;
-        low = low * product / divisor;
-        high = (high * product).div_ceil(divisor);
+        let divisor = bottom * term;
+        low = low * top / divisor;
+        high = (high * top).div_ceil(divisor);
         plus_low += low;
         plus_high += high;
         let above = plus_high as i128 - minus_low as i128;
@@ -203,25 +205,30 @@ fn point_bracket(product: u128) -> (i128, i128) {
     }
 }
 
-fn exponent(n: u64, k: u64) -> Fraction {
-    Fraction::new(
-        Integer::from(Natural::from(n as u128 * k as u128)),
-        Natural::from(EXPONENT_PARTS),
-    )
+/// A fraction w of 0 or more: top / bottom.
+pub type Exponent = (u128, u128);
+
+/// w of step 4.
+fn of_rate(n: u64, k: u64) -> Exponent {
+    (n as u128 * k as u128, EXPONENT_PARTS as u128)
+}
+
+fn fraction((top, bottom): Exponent) -> Fraction {
+    Fraction::new(Integer::from(Natural::from(top)), Natural::from(bottom))
 }
 
 /// x = factor × e^(-w) for w above 0: the whole number f with f < x < f + 1.
 /// (e^(-w) is irrational, so x is never whole; both ends of the bracket must agree strictly.)
-fn open_floor(n: u64, k: u64, factor: u64) -> u64 {
-    let product = n as u128 * k as u128;
-    assert!(product > 0);
-    if product > 30 * EXPONENT_PARTS as u128 {
+fn open_floor(w: Exponent, factor: u64) -> u64 {
+    let (top, bottom) = w;
+    assert!(top > 0);
+    if top > 30 * bottom {
         // e^(-w) falls in w, and 2,000,000,000 × e^(-30) is below 1 (tested from its bracket).
         assert!(factor <= 2 * BILLION);
         return 0;
     }
-    if product <= 8 * EXPONENT_PARTS as u128 {
-        let (below, above) = point_bracket(product);
+    if top <= 8 * bottom {
+        let (below, above) = point_bracket(top, bottom);
         if below > 0 {
             let one = 1u128 << POINT;
             let low = below as u128 * factor as u128;
@@ -232,12 +239,12 @@ fn open_floor(n: u64, k: u64, factor: u64) -> u64 {
             }
         }
     }
-    open_floor_by_sums(n, k, factor)
+    open_floor_by_sums(w, factor)
 }
 
 /// The same from the paper's sums alone, in fractions.
-fn open_floor_by_sums(n: u64, k: u64, factor: u64) -> u64 {
-    let (floor, whole) = decide(&exponent(n, k), |x| {
+fn open_floor_by_sums(w: Exponent, factor: u64) -> u64 {
+    let (floor, whole) = decide(&fraction(w), |x| {
         let (floor, rest) = x.mul_whole(factor).numerator.div_rem_floor(&x.denominator);
         (floor, rest.is_zero())
     });
@@ -246,20 +253,40 @@ fn open_floor_by_sums(n: u64, k: u64, factor: u64) -> u64 {
 }
 
 /// 1,000,000,000 × e^(-w) rounded down.
-pub fn survival_floor(n: u64, k: u64) -> u64 {
-    if n == 0 || k == 0 {
+fn floor_of(w: Exponent) -> u64 {
+    if w.0 == 0 {
         return BILLION;
     }
-    open_floor(n, k, BILLION)
+    open_floor(w, BILLION)
+}
+
+/// The whole number nearest to 1,000,000,000 × e^(-w).
+pub fn nearest_of(w: Exponent) -> u64 {
+    if w.0 == 0 {
+        return BILLION;
+    }
+    // Half of the doubled number, rounded up: floor(2x) is 2f or 2f + 1.
+    open_floor(w, 2 * BILLION).div_ceil(2)
+}
+
+/// The lowest and the highest whole number from 0 to 1,000,000,000 at most `distance` from x, which
+/// lies between this floor and the next whole number.
+fn range_around(floor: u64, distance: u64) -> (u64, u64) {
+    // f < x < f + 1: the whole numbers within d of x run from f + 1 - d to f + d.
+    (
+        (floor + 1).saturating_sub(distance),
+        (floor + distance).min(BILLION),
+    )
+}
+
+/// 1,000,000,000 × e^(-w) rounded down.
+pub fn survival_floor(n: u64, k: u64) -> u64 {
+    floor_of(of_rate(n, k))
 }
 
 /// The survival number nearest to 1,000,000,000 × e^(-w).
 pub fn survival_nearest(n: u64, k: u64) -> u64 {
-    if n == 0 || k == 0 {
-        return BILLION;
-    }
-    // Half of the doubled number, rounded up: floor(2x) is 2f or 2f + 1.
-    open_floor(n, k, 2 * BILLION).div_ceil(2)
+    nearest_of(of_rate(n, k))
 }
 
 /// Step 4: the lowest and the highest survival number at most `distance` from the exact one.
@@ -268,12 +295,7 @@ pub fn survival_range(n: u64, k: u64, distance: u64) -> (u64, u64) {
     if n == 0 || k == 0 {
         return (BILLION, BILLION);
     }
-    // f < x < f + 1: the whole numbers within d of x run from f + 1 - d to f + d.
-    let floor = survival_floor(n, k);
-    (
-        (floor + 1).saturating_sub(distance),
-        (floor + distance).min(BILLION),
-    )
+    range_around(survival_floor(n, k), distance)
 }
 
 /// The numbers that step 4 allows: at most 3 from.
@@ -300,7 +322,7 @@ pub fn within_by_sums(s: u64, n: u64, k: u64, d: u64, last: u64) -> bool {
     }
     let low = Fraction::whole(s as i128 - d as i128);
     let high = Fraction::whole(s as i128 + d as i128);
-    let mut sums = Sums::new(&exponent(n, k));
+    let mut sums = Sums::new(&fraction(of_rate(n, k)));
     loop {
         let sum = sums.value().mul_whole(BILLION);
         if sums.ends_on_plus() && low.compare(&sum) == Ordering::Greater {
@@ -314,6 +336,62 @@ pub fn within_by_sums(s: u64, n: u64, k: u64, d: u64, last: u64) -> bool {
         }
         sums.advance();
     }
+}
+
+// ---- Change 2026-04: survival numbers of ages ----
+
+/// w = years / this: radiocarbon's mean life in years.
+pub const MEAN_LIFE: u64 = 8_035;
+
+/// The oldest age that is given.
+pub const OLDEST: u64 = 60_000;
+
+fn of_age(years: u64) -> Exponent {
+    (years as u128, MEAN_LIFE as u128)
+}
+
+/// An age's survival number rounded down and the nearest, for every age that is given.
+fn age_numbers(years: u64) -> (u64, u64) {
+    static TABLE: OnceLock<Vec<(u64, u64)>> = OnceLock::new();
+    let table = TABLE.get_or_init(|| {
+        let numbers = |years| (floor_of(of_age(years)), nearest_of(of_age(years)));
+        (0..=OLDEST).map(numbers).collect()
+    });
+    table[usize::try_from(years).expect("an age that is given")]
+}
+
+/// 1,000,000,000 × e^(-years / 8035) rounded down.
+pub fn age_floor(years: u64) -> u64 {
+    age_numbers(years).0
+}
+
+/// The whole number nearest to 1,000,000,000 × e^(-years / 8035).
+pub fn age_nearest(years: u64) -> u64 {
+    age_numbers(years).1
+}
+
+/// The lowest and the highest number at most `distance` from the exact one; exact at age 0.
+pub fn age_range(years: u64, distance: u64) -> (u64, u64) {
+    if years == 0 {
+        return (BILLION, BILLION);
+    }
+    range_around(age_floor(years), distance)
+}
+
+/// Is s at most d from 1,000,000,000 × e^(-years / 8035), from 0 to 1,000,000,000, and exact at 0?
+pub fn age_within(s: u64, years: u64, d: u64) -> bool {
+    let (lowest, highest) = age_range(years, d);
+    (lowest..=highest).contains(&s)
+}
+
+/// Is e^(-years / 8035) at most part / whole? By the paper's sums alone, in fractions.
+pub fn age_at_most(years: u64, part: u64, whole: u64) -> bool {
+    assert!(whole > 0, "a fraction");
+    if years == 0 {
+        return part >= whole;
+    }
+    let bound = Fraction::of(part as i128, whole as u128);
+    decide(&fraction(of_age(years)), |x| x.at_most(&bound))
 }
 
 // ---- Change 2026-03: how many terms of the series are summed ----
@@ -449,7 +527,8 @@ mod tests {
         }
     }
 
-    /// The entries closest to a half: T 133 is 16090.50009735, C 658 is 243625.49987, C 17 is 155586.50027.
+    /// The entries closest to a half: T 133 is 16090.50009735, C 658 is 243625.49987, C 17 is
+    /// 155586.50027.
     #[test]
     fn tightest_entries() {
         assert_eq!(temperature_factor(133), 16_091);
@@ -545,10 +624,13 @@ mod tests {
                 if n == 0 {
                     continue;
                 }
-                assert_eq!(survival_floor(n, k), open_floor_by_sums(n, k, BILLION));
+                assert_eq!(
+                    survival_floor(n, k),
+                    open_floor_by_sums(of_rate(n, k), BILLION)
+                );
                 assert_eq!(
                     survival_nearest(n, k),
-                    open_floor_by_sums(n, k, 2 * BILLION).div_ceil(2)
+                    open_floor_by_sums(of_rate(n, k), 2 * BILLION).div_ceil(2)
                 );
                 let (lowest, highest) = allowed_range(n, k);
                 let nearest = survival_nearest(n, k);
@@ -567,6 +649,35 @@ mod tests {
                 }
             }
         }
+    }
+
+    /// Survival numbers of ages against the sums, and their distance.
+    #[test]
+    fn ages_against_the_sums() {
+        assert_eq!(
+            (age_floor(0), age_range(0, 3)),
+            (BILLION, (BILLION, BILLION))
+        );
+        assert!(age_within(BILLION, 0, 1) && !age_within(BILLION - 1, 0, 1));
+        for years in (1..=OLDEST)
+            .step_by(997)
+            .chain([1, 2, 8_035, 49_935, OLDEST])
+        {
+            let w = of_age(years);
+            let floor = age_floor(years);
+            assert_eq!(floor, open_floor_by_sums(w, BILLION), "age {years}");
+            let doubled = open_floor_by_sums(w, 2 * BILLION);
+            assert_eq!(age_nearest(years), doubled.div_ceil(2), "age {years}");
+            assert_eq!(age_range(years, 1), (floor, floor + 1));
+            for (s, near) in [(floor - 1, 0), (floor, 1), (floor + 1, 1), (floor + 2, 0)] {
+                assert_eq!(age_within(s, years, 1), near == 1);
+            }
+            // Between the two whole numbers beside it.
+            assert!(age_at_most(years, floor + 1, BILLION) && !age_at_most(years, floor, BILLION));
+        }
+        assert!(age_at_most(0, 5, 5) && !age_at_most(0, 4, 5));
+        // e^(-1): 0.36787944117.
+        assert_eq!(age_floor(MEAN_LIFE), 367_879_441);
     }
 
     #[test]

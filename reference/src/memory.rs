@@ -7,8 +7,8 @@ use crate::calls::{
     MONTHS, OWN_NUMBERS, PLACES,
 };
 use crate::model::{
-    check_call, list_watched, run_month, spin_up_watched, Cause, Field, Refusal, Row, Spun, State,
-    Survival, Watch, KEPT_LIMIT,
+    check_call, list_watched, report, run_month, spin_up_watched, Asked, Cause, Field, Refusal,
+    Report, Row, Spun, State, Survival, Watch, KEPT_LIMIT,
 };
 use std::ops::Range;
 
@@ -119,4 +119,14 @@ pub fn take_back(memory: &mut StateNumbers) -> Result<(), Refusal> {
     memory.copy_within(latest, 0);
     memory[KEPT] -= 1;
     Ok(())
+}
+
+/// The radiocarbon report of a lent state, which stays.
+pub fn radiocarbon(
+    memory: &StateNumbers,
+    asked: Asked,
+    survival: &mut dyn Survival,
+) -> Result<Report, Refusal> {
+    report(&state_of(memory), memory[KEPT], asked, survival)
+        .map_err(|cause| Refusal { cause, place: 0 })
 }

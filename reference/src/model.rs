@@ -1,7 +1,10 @@
-//! Soil, state, months, lists and spin-up, with every refusal in the paper's order.
+//! Soil, state, months, lists, spin-up and radiocarbon reports, with every refusal in the paper's
+//! order.
 //! Lent numbers can be of any size; sums are taken in 128 bits, so nothing wraps.
 
-use crate::exponential::{clay_factor, survival_nearest, temperature_factor, BILLION};
+use crate::exponential::{
+    age_nearest, clay_factor, survival_nearest, temperature_factor, BILLION, OLDEST,
+};
 
 /// Ceiling of the active pools together, and of IOM, in grams (7, 17).
 pub const CARBON_CEILING: u128 = 1_000_000_000;
@@ -9,12 +12,22 @@ pub const CARBON_CEILING: u128 = 1_000_000_000;
 pub const MONTH_LIMIT: u64 = 120_000;
 /// Most carbon that a month can add, plant and manure together (10).
 pub const MONTH_ADDITIONS: u128 = 200_000_000;
+/// Most modern grams that a month can add: those additions at the highest activity (10).
+pub const MONTH_MODERN: u128 = 400_000_000;
+/// What a month leaves of an active pool's modern grams before they decay, in billionths.
+pub const MONTH_LEFT: u128 = 999_989_629;
+/// The activity of carbon that has as many modern grams as grams, in thousandths.
+pub const FRESH: i64 = 1_000;
+/// The highest activity (21).
+pub const HIGHEST_ACTIVITY: i64 = 2_000;
+/// The activity of IOM, in thousandths.
+pub const INERT_ACTIVITY: u128 = 2;
 /// Most rows of a list, and the highest count in a book (3).
 pub const ROW_LIMIT: usize = 1_200;
 /// Numbers in a weather row: temperature, rain, evaporation and its source.
 pub const WEATHER_NUMBERS: usize = 4;
-/// Numbers in a land row: cover, plant, manure.
-pub const LAND_NUMBERS: usize = 3;
+/// Numbers in a land row: cover, plant, manure, activity.
+pub const LAND_NUMBERS: usize = 4;
 /// Numbers in an output row: five pools, the month's CO2, D.
 pub const OUTPUT_NUMBERS: usize = 7;
 /// Most years of a spin-up (9).
@@ -61,6 +74,8 @@ pub struct State {
     pub months: u64,
     /// CO2 to date, in grams.
     pub co2: u64,
+    /// Modern grams of DPM, RPM, BIO, HUM: carbon times activity.
+    pub modern: [u64; 4],
 }
 
 /// A field: its state, and the states before its latest months, from the oldest to the latest.
@@ -81,6 +96,8 @@ pub struct Entries {
     pub cover: i64,
     pub plant: i64,
     pub manure: i64,
+    /// Of plant and manure, in thousandths.
+    pub activity: i64,
 }
 
 /// Each refusal's cause; `as u8` is its number in the paper.
@@ -106,6 +123,8 @@ pub enum Cause {
     TableLine = 18,
     Source = 19,
     NoneKept = 20,
+    Activity = 21,
+    NoCarbon = 22,
 }
 
 impl Cause {
@@ -124,9 +143,14 @@ pub struct Refusal {
 /// Seven numbers: DPM, RPM, BIO, HUM, IOM, the month's CO2, D.
 pub type Row = [u64; OUTPUT_NUMBERS];
 
-/// Where S comes from: it alone has latitude. A function of N and K.
+/// Where S comes from: it alone has latitude. A function of N and K, and one of an age.
 pub trait Survival {
     fn survival(&mut self, n: u64, k: u64) -> u64;
+
+    /// The survival number of an age up to 60,000: the nearest, unless it comes from elsewhere.
+    fn age(&mut self, years: u64) -> u64 {
+        age_nearest(years)
+    }
 }
 
 impl<F: FnMut(u64, u64) -> u64> Survival for F {
@@ -178,23 +202,37 @@ impl Soil {
 }
 
 impl State {
-    /// A new state: deficit, months and CO2 are 0.
+    /// A new state: deficit, months and CO2 are 0, and the pools have activity 1000.
     pub fn new(soil: Soil) -> State {
+        let modern = soil.pools;
         State {
             soil,
             deficit: 0,
             months: 0,
             co2: 0,
+            modern,
         }
+    }
+
+    /// The modern grams of the active pools together.
+    pub fn active_modern(&self) -> u128 {
+        self.modern.iter().map(|grams| *grams as u128).sum()
+    }
+
+    /// The modern grams of IOM: they follow from its carbon.
+    pub fn inert_modern(&self) -> u128 {
+        self.soil.inert as u128 * INERT_ACTIVITY / 1_000
     }
 
     /// Refusal 10, for a soil that 4 to 7 don't refuse. `kept`: how many states are kept.
     pub fn check_numbers(&self, kept: u64) -> Result<(), Cause> {
         let carbon = self.co2 as u128 + self.soil.active();
+        let months = self.months as u128;
         if self.deficit < 0
             || self.deficit > self.soil.deficit_limit()
             || self.months > MONTH_LIMIT
-            || carbon > CARBON_CEILING + MONTH_ADDITIONS * self.months as u128
+            || carbon > CARBON_CEILING + MONTH_ADDITIONS * months
+            || self.active_modern() > CARBON_CEILING + MONTH_MODERN * months
             || kept > KEPT_LIMIT as u64
         {
             return Err(Cause::State);
@@ -214,13 +252,18 @@ pub fn check_weather(temperature: i64, rain: i64, evaporation: i64) -> Result<()
     Ok(())
 }
 
-/// Refusals 15 to 17. `active`: the active pools before the month.
-pub fn check_land(cover: i64, plant: i64, manure: i64, active: u128) -> Result<(), Cause> {
+/// Refusals of a land row in their order: 15, 16, 21, 17. `active`: the active pools before the
+/// month.
+pub fn check_land(row: [i64; LAND_NUMBERS], active: u128) -> Result<(), Cause> {
+    let [cover, plant, manure, activity] = row;
     if cover != 0 && cover != 1 {
         return Err(Cause::Cover);
     }
     if !(0..=100_000_000).contains(&plant) || !(0..=100_000_000).contains(&manure) {
         return Err(Cause::Addition);
+    }
+    if !(0..=HIGHEST_ACTIVITY).contains(&activity) {
+        return Err(Cause::Activity);
     }
     if active + plant as u128 + manure as u128 > CARBON_CEILING {
         return Err(Cause::Ceiling);
@@ -228,14 +271,20 @@ pub fn check_land(cover: i64, plant: i64, manure: i64, active: u128) -> Result<(
     Ok(())
 }
 
-/// Refusals of a month's entries in their order: 13, 14, 19, 15, 16, 17. `active`: the active pools
-/// before the month.
+/// Refusals of a month's entries in their order: 13, 14, 19, 15, 16, 21, 17. `active`: the active
+/// pools before the month.
 pub fn check_entries(entries: &Entries, active: u128) -> Result<(), Cause> {
     check_weather(entries.temperature, entries.rain, entries.evaporation)?;
     if ![OPEN_PAN, EVAPOTRANSPIRATION].contains(&entries.source) {
         return Err(Cause::Source);
     }
-    check_land(entries.cover, entries.plant, entries.manure, active)
+    let row = [
+        entries.cover,
+        entries.plant,
+        entries.manure,
+        entries.activity,
+    ];
+    check_land(row, active)
 }
 
 /// Refusal 12 and those of the entries, as a month of a list or spin-up meets them.
@@ -339,34 +388,59 @@ pub fn split_manure(manure: u64) -> (u64, u64, u64) {
     (dpm, manure - dpm - hum, hum)
 }
 
-/// An accepted month, all checks done: steps 1 to 6.
-pub fn run_month(state: &State, entries: &Entries, survival: &mut dyn Survival) -> (State, Row) {
-    let soil = &state.soil;
-    let factors = factors(soil, state.deficit, entries);
-
-    // Step 5.
-    let mut pools = [0u64; 4];
-    let mut lost = 0u64;
-    for pool in 0..4 {
-        let s = survival.survival(factors.n, RATES[pool]);
-        assert!(s <= BILLION, "S is from 0 to 1,000,000,000");
-        pools[pool] = kept(soil.pools[pool], s);
-        lost += soil.pools[pool] - pools[pool];
-    }
-    let formed = lost * factors.clay / 1_000_000;
-    let co2 = lost - formed;
-    let to_bio = formed * 46 / 100;
+/// Step 5 on four pools, with their survival numbers and R: what is in them after it, and what is
+/// lost and not formed, CO2 where the pools are carbon.
+pub fn decayed(before: [u64; 4], survivals: &[u64; 4], clay: u64) -> ([u64; 4], u64) {
+    let mut pools: [u64; 4] = std::array::from_fn(|pool| kept(before[pool], survivals[pool]));
+    let lost: u64 = (0..4).map(|pool| before[pool] - pools[pool]).sum();
+    let formed = (lost as u128 * clay as u128 / 1_000_000) as u64;
+    let to_bio = (formed as u128 * 46 / 100) as u64;
     pools[BIO] += to_bio;
     pools[HUM] += formed - to_bio;
+    (pools, lost - formed)
+}
 
-    // Step 6.
-    let (dpm, rpm) = split_plant(soil.kind, entries.plant as u64);
+/// Step 6: the pools with plant and manure added.
+pub fn added(mut pools: [u64; 4], kind: i128, plant: u64, manure: u64) -> [u64; 4] {
+    let (dpm, rpm) = split_plant(kind, plant);
     pools[DPM] += dpm;
     pools[RPM] += rpm;
-    let (dpm, rpm, hum) = split_manure(entries.manure as u64);
+    let (dpm, rpm, hum) = split_manure(manure);
     pools[DPM] += dpm;
     pools[RPM] += rpm;
     pools[HUM] += hum;
+    pools
+}
+
+/// What a month leaves of an active pool's modern grams before they decay.
+pub fn month_left(modern: u64) -> u64 {
+    (modern as u128 * MONTH_LEFT / BILLION as u128) as u64
+}
+
+/// The modern grams that grams of this activity bring.
+pub fn brought(grams: u64, activity: i64) -> u64 {
+    (grams as u128 * activity as u128 / 1_000) as u64
+}
+
+/// An accepted month, all checks done: steps 1 to 6, and the same on the modern grams.
+pub fn run_month(state: &State, entries: &Entries, survival: &mut dyn Survival) -> (State, Row) {
+    let soil = &state.soil;
+    let factors = factors(soil, state.deficit, entries);
+    let survivals = RATES.map(|k| {
+        let s = survival.survival(factors.n, k);
+        assert!(s <= BILLION, "S is from 0 to 1,000,000,000");
+        s
+    });
+    let (plant, manure) = (entries.plant as u64, entries.manure as u64);
+
+    let (pools, co2) = decayed(soil.pools, &survivals, factors.clay);
+    let pools = added(pools, soil.kind, plant, manure);
+
+    // The month's radioactive loss comes first, so that the additions have none.
+    let modern = state.modern.map(month_left);
+    let (modern, _) = decayed(modern, &survivals, factors.clay);
+    let [plant, manure] = [plant, manure].map(|grams| brought(grams, entries.activity));
+    let modern = added(modern, soil.kind, plant, manure);
 
     let next = State {
         soil: Soil {
@@ -376,6 +450,7 @@ pub fn run_month(state: &State, entries: &Entries, survival: &mut dyn Survival) 
         deficit: factors.deficit,
         months: state.months + 1,
         co2: state.co2 + co2,
+        modern,
     };
     let row = [
         pools[0],
@@ -433,6 +508,7 @@ pub fn list_entries(weather: &[i64], land: &[i64], j: usize) -> Entries {
         cover: land[l],
         plant: land[l + 1],
         manure: land[l + 2],
+        activity: land[l + 3],
     }
 }
 
@@ -506,8 +582,8 @@ pub enum Spun {
     Unsettled(u64),
 }
 
-/// Spin-up with none kept. Order: 3, 4 to 7, 9, 10 with place 0, then month by month 12 and those of
-/// its entries, the place counted over all years. A refusal returns the starting state.
+/// Spin-up with none kept. Order: 3, 4 to 7, 9, 10 with place 0, then month by month 12 and those
+/// of its entries, the place counted over all years. A refusal returns the starting state.
 pub fn spin_up(
     state: &State,
     weather: &[i64],
@@ -562,6 +638,75 @@ pub fn spin_up_watched(
         }
     }
     (current, Ok(Spun::Unsettled(years as u64)))
+}
+
+/// What a radiocarbon report can be asked of: a pool, or all five together.
+#[derive(Clone, Copy, Debug, PartialEq, Eq)]
+pub enum Asked {
+    /// DPM, RPM, BIO or HUM by index.
+    Active(usize),
+    Inert,
+    All,
+}
+
+/// Whether a report has an age.
+#[derive(Clone, Copy, Debug, PartialEq, Eq)]
+pub enum Dated {
+    Age(u64),
+    /// No age up to 60,000 does it.
+    Older,
+    /// More modern grams than grams.
+    Newer,
+}
+
+#[derive(Clone, Copy, Debug, PartialEq, Eq)]
+pub struct Report {
+    /// In hundredths of a per mille.
+    pub delta: i128,
+    pub dated: Dated,
+}
+
+impl State {
+    /// Grams and modern grams of what is asked; all five are added up first.
+    pub fn weighed(&self, asked: Asked) -> (u128, u128) {
+        match asked {
+            Asked::Active(pool) => (self.soil.pools[pool] as u128, self.modern[pool] as u128),
+            Asked::Inert => (self.soil.inert as u128, self.inert_modern()),
+            Asked::All => (
+                self.soil.total(),
+                self.active_modern() + self.inert_modern(),
+            ),
+        }
+    }
+}
+
+/// Where carbon with these modern grams stands among the ages: year after year from 0, until a
+/// survival number is at most 1,000,000,000 × modern / carbon, compared by cross products.
+pub fn dated(carbon: u128, modern: u128, survival: &mut dyn Survival) -> Dated {
+    if modern > carbon {
+        return Dated::Newer;
+    }
+    let does_it = |years: &u64| survival.age(*years) as u128 * carbon <= BILLION as u128 * modern;
+    (0..=OLDEST).find(does_it).map_or(Dated::Older, Dated::Age)
+}
+
+/// A radiocarbon report. Refusals in order: 4 to 7, 10, 22. `kept`: how many states are kept.
+pub fn report(
+    state: &State,
+    kept: u64,
+    asked: Asked,
+    survival: &mut dyn Survival,
+) -> Result<Report, Cause> {
+    state.soil.check()?;
+    state.check_numbers(kept)?;
+    let (carbon, modern) = state.weighed(asked);
+    if carbon == 0 {
+        return Err(Cause::NoCarbon);
+    }
+    Ok(Report {
+        delta: (100_000 * modern / carbon) as i128 - 100_000,
+        dated: dated(carbon, modern, survival),
+    })
 }
 
 /// The calls on a field. A month that runs keeps the state before it; a refusal keeps nothing.
@@ -687,6 +832,7 @@ mod tests {
         cover: 0,
         plant: 0,
         manure: 0,
+        activity: FRESH,
     };
 
     fn cause(state: &State, number: i128, entries: &Entries) -> Option<u8> {
@@ -847,7 +993,9 @@ mod tests {
             cover: i64::MIN,
             plant: i64::MAX,
             manure: i64::MAX,
+            activity: i64::MIN,
         };
+        bad.modern = [max; 4];
         assert_eq!(cause(&bad, 0, &wrong), Some(4));
         bad.soil.clay = 1000;
         assert_eq!(cause(&bad, 0, &wrong), Some(5));
@@ -864,7 +1012,17 @@ mod tests {
         bad.months = 120_000;
         assert_eq!(cause(&bad, 0, &wrong), Some(10));
         bad.co2 = 24_000_999_999_999;
+        assert_eq!(cause(&bad, 0, &wrong), Some(10));
+        bad.modern = [1, 48_000_999_999_997, 1, 1];
         assert_eq!(cause(&bad, 0, &wrong), Some(11));
+        bad.modern[2] += 1;
+        assert_eq!(cause(&bad, 0, &wrong), Some(10));
+        // These wrap to 0 and to 1.
+        for modern in [[1 << 62; 4], [max, 1, 0, 1]] {
+            bad.modern = modern;
+            assert_eq!(cause(&bad, 0, &wrong), Some(10));
+        }
+        bad.modern = [0; 4];
         bad.co2 += 1;
         assert_eq!(cause(&bad, 0, &wrong), Some(10));
         bad.co2 -= 1;
@@ -898,12 +1056,19 @@ mod tests {
             ..wrong
         };
         assert_eq!(cause(&bad, 120_000, &wrong), Some(16));
+        bad.soil.pools = [800_000_001, 0, 0, 0];
         let wrong = Entries {
             manure: 100_000_000,
             ..wrong
         };
-        assert_eq!(cause(&bad, 120_000, &wrong), None);
-        bad.soil.pools = [800_000_001, 0, 0, 0];
+        for activity in [i64::MIN, -1, 2_001, i64::MAX] {
+            let wrong = Entries { activity, ..wrong };
+            assert_eq!(cause(&bad, 120_000, &wrong), Some(21));
+        }
+        let wrong = Entries {
+            activity: 2_000,
+            ..wrong
+        };
         assert_eq!(cause(&bad, 120_000, &wrong), Some(17));
         bad.soil.pools = [800_000_000, 0, 0, 0];
         assert_eq!(cause(&bad, 120_000, &wrong), None);
@@ -913,7 +1078,7 @@ mod tests {
     fn lists() {
         let state = State::new(soil(0, 1, 2, [10, 20, 30, 40], 5));
         let weather = [-60, 0, 0, 0, 501, 0, 0, 0];
-        let land = [0, 1, 2, 1, 0, 0];
+        let land = [0, 1, 2, 1000, 1, 0, 0, 0];
         let run = |state: &State, weather: &[i64], land: &[i64], output: &mut [u64]| {
             let (next, answer) = list(state, weather, land, output, &mut Nearest);
             (
@@ -925,7 +1090,7 @@ mod tests {
         };
         // One month uses one weather row: the faulty second is not checked.
         let mut output = [9; 16];
-        let (next, refused) = run(&state, &weather, &land[..3], &mut output);
+        let (next, refused) = run(&state, &weather, &land[..4], &mut output);
         assert_eq!(refused, None);
         assert_eq!(output, [10, 23, 30, 40, 5, 0, 0, 9, 9, 9, 9, 9, 9, 9, 9, 9]);
         assert_eq!(next.months, 1);
@@ -937,19 +1102,29 @@ mod tests {
         // 19 has its month's place, after 14 and before 15.
         let mut output = [9; 16];
         let sources = [-60, 0, 0, 1, -60, 0, 0, 2];
-        let faulty = [0, 1, 2, 2, -1, 0];
+        let faulty = [0, 1, 2, 0, 2, -1, 0, 0];
         let (next, refused) = run(&state, &sources, &faulty, &mut output);
         assert_eq!((refused, next.months), (Some((19, 2)), 1));
         let sources = [-60, 0, 0, 1, -60, 0, -1, 2];
         let (_, refused) = run(&state, &sources, &faulty, &mut output);
         assert_eq!(refused, Some((14, 2)));
+        // 21 after 16 and before 17, with its month's place.
+        for (row, number) in [([1, 0, 0, 2_001], 21), ([1, -1, 0, -1], 16)] {
+            let faulty = [
+                land[0], land[1], land[2], 2_000, row[0], row[1], row[2], row[3],
+            ];
+            let (next, refused) = run(&state, &[-60, 0, 0, 1], &faulty, &mut output);
+            assert_eq!((refused, next.months), (Some((number, 2)), 1));
+            assert_eq!(next.modern, [10, 24, 29, 39]);
+        }
         // 3 before all, 8 before 10.
         let none: [i64; 0] = [];
         for (w, l) in [
             (&weather[..3], &land[..]),
             (&weather[..5], &land[..]),
             (&weather[..6], &land[..]),
-            (&weather[..], &land[..4]),
+            (&weather[..], &land[..3]),
+            (&weather[..], &land[..6]),
             (&none[..], &land[..]),
             (&weather[..], &none[..]),
         ] {
@@ -957,7 +1132,7 @@ mod tests {
         }
         let long = vec![0; 4 * 1201];
         assert_eq!(run(&state, &long, &land, &mut output).1, Some((3, 0)));
-        let long = vec![0; 3 * 1201];
+        let long = vec![0; 4 * 1201];
         assert_eq!(run(&state, &weather, &long, &mut output).1, Some((3, 0)));
         let dry = State {
             deficit: -1,
@@ -987,7 +1162,7 @@ mod tests {
         assert_eq!((refused, next), (Some((12, 1)), done));
         // Weather wraps round.
         let weather = [-60, 0, 100, 0, -60, 0, 1, 0];
-        let land = [1, 0, 0].repeat(3);
+        let land = [1, 0, 0, 1000].repeat(3);
         let mut output = [0; 21];
         assert_eq!(run(&state, &weather, &land, &mut output).1, None);
         assert_eq!(output[6], 1_800_000);
@@ -1009,7 +1184,7 @@ mod tests {
     #[test]
     fn spin_ups() {
         let frost: Vec<i64> = [-60, 0, 0, 0].repeat(12);
-        let bare: Vec<i64> = [0, 0, 0].repeat(12);
+        let bare: Vec<i64> = [0, 0, 0, 1000].repeat(12);
         let state = State::new(soil(0, 1, 2, [10, 20, 30, 40], 5));
         let (next, answer) = spin_up(&state, &frost, &bare, 10, &mut Nearest);
         assert_eq!((answer, next.months), (Ok(Spun::Settled(1)), 12));
@@ -1035,8 +1210,8 @@ mod tests {
         };
         assert_eq!(refused(&state, &frost[..44], &bare, 0), Some((3, 0)));
         assert_eq!(refused(&state, &frost[..36], &bare, 0), Some((3, 0)));
-        assert_eq!(refused(&state, &frost, &[0; 48], 0), Some((3, 0)));
-        assert_eq!(refused(&state, &frost, &[0; 39], 0), Some((3, 0)));
+        assert_eq!(refused(&state, &frost, &[0; 36], 0), Some((3, 0)));
+        assert_eq!(refused(&state, &frost, &[0; 52], 0), Some((3, 0)));
         let deep = State {
             soil: soil(0, 101, 2, [0; 4], 0),
             deficit: -1,
@@ -1056,7 +1231,7 @@ mod tests {
         assert_eq!(refused(&state, &other, &bare, 10), Some((19, 5)));
         // Year 4, month 5 is 41: 300 grams short of the ceiling after three years and four months.
         let mut land = bare.clone();
-        land[12 + 1] = 100_000_000;
+        land[16 + 1] = 100_000_000;
         let full = State::new(soil(0, 1, 2, [600_000_001, 0, 0, 0], 0));
         assert_eq!(refused(&full, &frost, &land, 10), Some((17, 41)));
         let late = State {
@@ -1065,7 +1240,7 @@ mod tests {
         };
         assert_eq!(refused(&late, &frost, &land, 10), Some((12, 11)));
         // Ten thousand years of months are 120,000: the last runs from a new state.
-        land[13] = 0;
+        land[17] = 0;
         land[1] = 1_001;
         let (next, answer) = spin_up(
             &State::new(soil(0, 1, 2, [0; 4], 0)),
@@ -1108,12 +1283,12 @@ mod tests {
         // By a list, and by one that is refused at its fourth month.
         let mut listed = Field::new(hoosfield());
         let january = [34, 740, 80, 0];
-        let bare = [0, 0, 0].repeat(30);
+        let bare = [0, 0, 0, 1000].repeat(30);
         let mut rows = [0; 210];
         let answer = listed.list(&january, &bare, &mut rows, &mut Nearest);
         assert_eq!((answer, &listed), (Ok(()), &field));
         let mut wrong = bare.clone();
-        wrong[9] = 2;
+        wrong[12] = 2;
         let answer = listed.list(&january, &wrong, &mut rows, &mut Nearest);
         assert_eq!(answer.unwrap_err().place, 4);
         for number in 31..=33 {
@@ -1122,9 +1297,9 @@ mod tests {
         assert_eq!(listed, field);
         // Spin-up: refused it keeps all, else none.
         let year = january.repeat(12);
-        let spun = listed.spin_up(&year, &wrong[..36], 3, &mut Nearest);
+        let spun = listed.spin_up(&year, &wrong[..48], 3, &mut Nearest);
         assert_eq!((spun.unwrap_err().place, &listed), (4, &field));
-        assert!(listed.spin_up(&year, &bare[..36], 3, &mut Nearest).is_ok());
+        assert!(listed.spin_up(&year, &bare[..48], 3, &mut Nearest).is_ok());
         assert!(listed.kept.is_empty() && listed.state.months > 33);
         assert_eq!(listed.take_back(), Err(Cause::NoneKept));
     }
@@ -1142,10 +1317,10 @@ mod tests {
             let months = field.month(9, &JANUARY, &mut Nearest).map(drop);
             let lists = [6, 7].map(|room| {
                 let mut rows = vec![0; room];
-                field.list(&[34, 740, 80, 0], &[0, 0, 0], &mut rows, &mut Nearest)
+                field.list(&[34, 740, 80, 0], &[0; 4], &mut rows, &mut Nearest)
             });
             let years = [0, 1].map(|years| {
-                let (sky, land) = ([34, 740, 80, 0].repeat(12), [0; 36]);
+                let (sky, land) = ([34, 740, 80, 0].repeat(12), [0; 48]);
                 let spun = field.spin_up(&sky, &land, years, &mut Nearest);
                 spun.map(drop)
             });
@@ -1161,6 +1336,163 @@ mod tests {
         assert_eq!((&field.state, field.kept.len()), (&given.state, 23));
     }
 
+    /// January 1852 with the modern grams by hand: each pool first by 999,989,629 billionths.
+    #[test]
+    fn modern_grams_of_january() {
+        let state = State::new(hoosfield());
+        assert_eq!(state.modern, [153_300, 4_485_200, 667_100, 25_857_600]);
+        let left = state.modern.map(month_left);
+        // 153,298.41, 4,485,153.48, 667,093.08 and 25,857,331.83.
+        assert_eq!(left, [153_298, 4_485_153, 667_093, 25_857_331]);
+        let (next, _) = month(&state, 1, &JANUARY, &mut Nearest);
+        let kept: [u64; 4] = std::array::from_fn(|pool| {
+            kept(left[pool], survival_nearest(356_100_000, RATES[pool]))
+        });
+        let lost = left.iter().sum::<u64>() - kept.iter().sum::<u64>();
+        let formed = lost * 221_524 / 1_000_000;
+        let to_bio = formed * 46 / 100;
+        let wanted = [
+            kept[0],
+            kept[1],
+            kept[2] + to_bio,
+            kept[3] + formed - to_bio,
+        ];
+        assert_eq!(next.modern, wanted);
+        assert_eq!(next.modern, [113_935, 4_445_401, 665_097, 25_854_836]);
+    }
+
+    /// Additions in frost: plant and manure by activity one by one, then the shares, no loss.
+    #[test]
+    fn modern_grams_of_additions() {
+        let empty = State::new(soil(0, 23, 1, [0; 4], 0));
+        let frost = |plant: i64, manure: i64, activity: i64| {
+            let entries = Entries {
+                temperature: -60,
+                plant,
+                manure,
+                activity,
+                ..JANUARY
+            };
+            month(&empty, 1, &entries, &mut Nearest).0.modern
+        };
+        assert_eq!(frost(61, 0, 1_000), [36, 25, 0, 0]);
+        assert_eq!(frost(61, 0, 2_000), [72, 50, 0, 0]);
+        assert_eq!(frost(61, 99, 0), [0; 4]);
+        // 91 x 1.099 is 100.009: 49, 49 and 2, not 1.099 times the carbon's 44, 46 and 1.
+        assert_eq!(frost(0, 91, 1_099), [49, 49, 0, 2]);
+        // 1.999 and 1.999: 1 and 1, not 3 together.
+        assert_eq!(frost(1, 1, 1_999), [0, 2, 0, 0]);
+        // Large ones lose nothing in their own month.
+        let most = 100_000_000;
+        let (dpm, hum) = (2 * most as u64 * 36 / 61 + 98_000_000, 4_000_000);
+        assert_eq!(
+            frost(most, most, 2_000),
+            [dpm, 4 * most as u64 - dpm - hum, 0, hum]
+        );
+    }
+
+    fn told(state: &State, asked: Asked) -> Result<(i128, Dated), u8> {
+        match report(state, 0, asked, &mut Nearest) {
+            Ok(report) => Ok((report.delta, report.dated)),
+            Err(cause) => Err(cause.number()),
+        }
+    }
+
+    #[test]
+    fn reports() {
+        let mut state = State::new(hoosfield());
+        // A new state's pools are fresh; IOM has 2 thousandths, and its age is 49,935 years.
+        for pool in 0..4 {
+            assert_eq!(told(&state, Asked::Active(pool)), Ok((0, Dated::Age(0))));
+        }
+        assert_eq!(
+            told(&state, Asked::Inert),
+            Ok((-99_800, Dated::Age(49_935)))
+        );
+        // 31,168,600 of 33,863,200: 92,042.66, and 8035 x 0.08292 is 666.25.
+        assert_eq!(told(&state, Asked::All), Ok((-7_958, Dated::Age(667))));
+        state.modern[1] = 0;
+        let older = Ok((-100_000, Dated::Older));
+        assert_eq!(told(&state, Asked::Active(1)), older);
+        state.modern[1] = 4_485_199;
+        // 99,999.98 rounded down, and a year does it.
+        assert_eq!(told(&state, Asked::Active(1)), Ok((-1, Dated::Age(1))));
+        state.modern[1] = 4_485_201;
+        assert_eq!(told(&state, Asked::Active(1)), Ok((0, Dated::Newer)));
+        state.modern[1] = 8_970_400;
+        assert_eq!(told(&state, Asked::Active(1)), Ok((100_000, Dated::Newer)));
+        // IOM below 500 g has no modern grams.
+        for (inert, wanted) in [
+            (499, older),
+            (500, Ok((-99_800, Dated::Age(49_935)))),
+            (0, Err(22)),
+        ] {
+            state.soil.inert = inert;
+            assert_eq!(told(&state, Asked::Inert), wanted);
+        }
+        // 22 after 10, and for all five only where none has carbon.
+        state.soil.pools = [0; 4];
+        for asked in [Asked::Active(0), Asked::Active(3), Asked::All] {
+            assert_eq!(told(&state, asked), Err(22));
+        }
+        state.modern = [u64::MAX; 4];
+        assert_eq!(told(&state, Asked::All), Err(10));
+        state.soil.depth = 0;
+        assert_eq!(told(&state, Asked::All), Err(5));
+        // One gram of carbon beside all the modern grams that 10 allows.
+        let mut most = State::new(soil(0, 1, 2, [0, 0, 0, 1], 0));
+        most.months = 120_000;
+        most.modern = [0, 0, 0, 48_001_000_000_000];
+        let delta = 4_800_099_999_999_900_000;
+        assert_eq!(told(&most, Asked::Active(3)), Ok((delta, Dated::Newer)));
+        assert_eq!(told(&most, Asked::All), Ok((delta, Dated::Newer)));
+        most.modern[0] = 1;
+        assert_eq!(told(&most, Asked::All), Err(10));
+    }
+
+    /// Modern grams never touch carbon.
+    #[test]
+    fn carbon_is_its_own() {
+        let mut seed = 41u64;
+        let mut draw = |limit: u64| {
+            seed = seed
+                .wrapping_mul(6_364_136_223_846_793_005)
+                .wrapping_add(1_442_695_040_888_963_407);
+            (seed >> 20) % limit
+        };
+        for _ in 0..300 {
+            let mut one = State::new(hoosfield());
+            let mut other = State {
+                modern: std::array::from_fn(|_| draw(250_000_000)),
+                ..one.clone()
+            };
+            for number in 1..=40 {
+                let entries = Entries {
+                    temperature: draw(300) as i64 - 60,
+                    plant: draw(900_000) as i64,
+                    manure: draw(900_000) as i64,
+                    activity: draw(2_001) as i64,
+                    ..JANUARY
+                };
+                let again = Entries {
+                    activity: draw(2_001) as i64,
+                    ..entries
+                };
+                let (next, row) = month(&one, number, &entries, &mut Nearest);
+                let (beside, same) = month(&other, number, &again, &mut Nearest);
+                assert_eq!(row, same);
+                (one, other) = (next, beside);
+                let as_one = State {
+                    modern: one.modern,
+                    ..other.clone()
+                };
+                assert_eq!(as_one, one);
+                // What 10 allows is never left.
+                assert!(other.check_numbers(0).is_ok());
+            }
+        }
+    }
+
     /// Numbers of any size end in an answer, and a refused call returns what it was given.
     #[test]
     fn any_numbers_at_all() {
@@ -1171,7 +1503,7 @@ mod tests {
                 .wrapping_add(1_442_695_040_888_963_407);
             (seed >> 33) % limit
         };
-        let mut seen = [0u32; 20];
+        let mut seen = [0u32; 22];
         for _ in 0..20_000 {
             let mut any = |common: u64| match draw(12) {
                 0 => u64::MAX - draw(3),
@@ -1190,6 +1522,7 @@ mod tests {
                 deficit: any(1_800_000) as i128,
                 months: any(120_000),
                 co2: any(1_000_000_000),
+                modern: [any(990_000_000), any(9_000), any(9_000), any(9_000)],
             };
             let entries = Entries {
                 temperature: any(500) as i64,
@@ -1199,6 +1532,7 @@ mod tests {
                 cover: any(1) as i64,
                 plant: any(100_000_000) as i64,
                 manure: any(100_000_000) as i64,
+                activity: any(2_000) as i64,
             };
             let number = state.months as i128 + i128::from(any(9) > 0);
             seen[cause(&state, number, &entries).unwrap_or(0) as usize] += 1;
@@ -1209,7 +1543,13 @@ mod tests {
                 entries.source,
             ]
             .repeat(12);
-            let land = [entries.cover, entries.plant, entries.manure].repeat(12);
+            let land = [
+                entries.cover,
+                entries.plant,
+                entries.manure,
+                entries.activity,
+            ]
+            .repeat(12);
             let mut output = [7; 90];
             let (next, answer) = list(&state, &weather, &land, &mut output, &mut Nearest);
             let ran = match answer {
@@ -1226,7 +1566,7 @@ mod tests {
                 }
             }
         }
-        for number in [0, 4, 5, 6, 7, 10, 11, 13, 14, 19, 15, 16, 17] {
+        for number in [0, 4, 5, 6, 7, 10, 11, 13, 14, 19, 15, 16, 21, 17] {
             assert!(seen[number] > 0, "refusal {number}");
         }
     }

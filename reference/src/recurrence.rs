@@ -1,4 +1,4 @@
-//! The exact recurrence and demand 3, (a) the carbon sum and (b) the distance.
+//! The exact recurrence and demand 3, (a) the carbon sum and (b) the distance: of carbon alone.
 
 use crate::big::{Integer, Natural};
 use crate::exponential::BILLION;
@@ -554,6 +554,7 @@ mod tests {
             cover: draw.below(2) as i64,
             plant: draw.below(largest) as i64,
             manure: draw.below(largest) as i64,
+            activity: draw.below(2_001) as i64,
         }
     }
 
@@ -678,7 +679,7 @@ mod tests {
                         // Its last month is refused.
                         2 => {
                             let weather = [50, 400, 300, 1, 501, 0, 0, 0];
-                            let land = [0, 5_000, 7_000, 1, 0, 0];
+                            let land = [0, 5_000, 7_000, 1_000, 1, 0, 0, 2_000];
                             let refused = list.list(&weather, &land, survival).unwrap_err();
                             assert_eq!(refused.place, 2);
                             all.push(list.months[list.months.len() - 1]);
@@ -794,6 +795,7 @@ mod tests {
             cover: 0,
             plant: 10,
             manure: 100,
+            activity: 1_000,
         };
         let mut exact = Exact::new(&soil);
         let one = Fraction::whole(1);
@@ -835,6 +837,7 @@ mod tests {
             cover: 0,
             plant: 0,
             manure: 50_000,
+            activity: 1_000,
         };
         let calls: Vec<(i128, Entries)> = (1..=24).map(|number| (number, entries)).collect();
         let (answered, last) = run_calls(&soil, &calls, &mut Nearest);

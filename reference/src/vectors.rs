@@ -161,7 +161,8 @@ fn whole(soil: &str, weather: &[&str], land: &[&str]) -> String {
     text
 }
 
-/// The weather table of Rothamsted: rain and evaporation as 001 has them, temperatures near 9.3 °C a year.
+/// The weather table of Rothamsted: rain and evaporation as 001 has them, temperatures near 9.3 °C
+/// a year.
 pub const ROTHAMSTED: [&str; 12] = [
     "34 740 80",
     "36 590 100",
@@ -200,7 +201,8 @@ fn known_figures(shelf: &mut Shelf) {
     // January 1852, byte by byte as document 01 has it.
     shelf.shows(
         "January 1852",
-        "SOIL 1\n234 23 1 153300 4485200 667100 25857600 2700000\nWEATHER 1\n34 740 80\nLAND 1\n0 0 0\n",
+        "SOIL 1\n234 23 1 153300 4485200 667100 25857600 2700000\nWEATHER 1\n34 740 80\n\
+         LAND 1\n0 0 0\n",
         "POOLS 1\n1 113937 4445447 665104 25855106 2700000 83606 0\nTOTAL 33779594 83606\n",
     );
     // Frost keeps S exact, so full pools are fixed too.
@@ -254,7 +256,8 @@ fn known_figures(shelf: &mut Shelf) {
         ),
         "POOLS 3\n1 1 8 0 0 0 0 0\n2 2 12 0 0 0 0 0\n3 2 16 0 0 0 0 0\nTOTAL 18 0\n",
     );
-    // January to December under a crop; the last number of each row is 001's deficit table in parts.
+    // January to December under a crop; the last number of each row is 001's deficit table in
+    // parts.
     shelf.runs(
         "Rothamsted deficit table, cropped all year",
         whole("234 23 1 0 0 0 0 0", &ROTHAMSTED, &["1 0 0"; 12]),
@@ -962,7 +965,8 @@ fn drawn_books(shelf: &mut Shelf) {
             shelf.drawn(&name, &mut draw, |draw| draw_book(draw, &plan));
         }
     }
-    // Hoosfield from January 1852 with the additions of 001, pools a little off so that it is fixed.
+    // Hoosfield from January 1852 with the additions of 001, pools a little off so that it is
+    // fixed.
     let hoosfield = |draw: &mut Draw, land: &[&str]| {
         let pools =
             [153_300, 4_485_200, 667_100, 25_857_600].map(|grams| grams + draw.below(20_000));

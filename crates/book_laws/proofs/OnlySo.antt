@@ -19,14 +19,14 @@ use Rattle.month_state.specs.declared.Entries.{Entries}
 use Rattle.month_state.specs.declared.Weather.{Weather}
 use Rattle.month_state.specs.declared.Land.{Land}
 use Rattle.month_state.specs.State.{monthLimit, newState}
-use Rattle.list_rows.specs.Rows.{weatherWidth, landWidth, weatherFrom, weatherNumbers, landNumbers}
-use Rattle.list_rows.proofs.Layouts.{weather-of-length, weather-back, weather-past}
+use Rattle.list_rows.specs.Rows.{weatherWidth, landWidth, weatherFrom, landFrom, weatherNumbers, landNumbers}
+use Rattle.list_rows.proofs.Layouts.{weather-of-length, weather-back, weather-past, land-of-length, land-back, land-past}
 use Rattle.month_refusals.specs.declared.Check.{Check}
 use Rattle.month_refusals.specs.declared.Check.the-variants.{Pass, Refuse}
 use Rattle.month_refusals.specs.declared.Refusal.{Refusal}
 use Rattle.month_refusals.specs.declared.Refusal.the-variants.{Length, Rows, Form}
 use Rattle.month_refusals.specs.Asked.{firstOf}
-use Rattle.month_refusals.specs.Refusals.{limitReached, soilAsked, weatherAsked, landAsked, carbonAsked, entriesAsked}
+use Rattle.month_refusals.specs.Refusals.{limitReached, activityOutside, soilAsked, weatherAsked, landAsked, carbonAsked, entriesAsked}
 use Rattle.month_refusals.specs.Refusals.{soilCheck, weatherCheck, entriesCheck}
 use Rattle.month_refusals.proofs.First.{finds-own, first-append}
 use Rattle.month_state.proofs.Tests.{either-false}
@@ -42,9 +42,10 @@ use Rattle.list_run.proofs.ListCalls.{done-months}
 use Rattle.book_values.specs.declared.Value.{Value}
 use Rattle.book_lines.specs.declared.SoilNumbers.{SoilNumbers}
 use Rattle.book_lines.specs.declared.SoilLine.{SoilLine}
-use Rattle.book_lines.specs.Lines.{headLine, soilLine}
+use Rattle.book_lines.specs.declared.LandLine.{LandLine}
+use Rattle.book_lines.specs.Lines.{headLine, soilLine, landLine}
 use Rattle.book_lines.proofs.Laws.{head-read, soil-read}
-use Rattle.book_rows.specs.Rows.{RowsRead, readWeather, readLand}
+use Rattle.book_rows.specs.Rows.{landOf, asLand, landRow, landGives, RowsRead, rowThen, readRows, readWeather, readLand}
 use Rattle.book_run.specs.declared.BookAnswer.{BookAnswer}
 use Rattle.book_run.specs.declared.BookAnswer.the-variants.{Finished, Refused}
 use Rattle.book_run.specs.Book.{BookLeft, refusedOn, soilName, weatherName, landName, notOne, badCount, headed, ending, afterRows}
@@ -85,22 +86,60 @@ all-pass xs counted sound =
     let rows : weatherRows (flatMap weatherNumbers xs) ≡ length xs = omega (arith, rows-length weather-kind xs) in
     record { some = omega (arith, counted .least); each = λ i h. row-passes sound i (omega arith) }
 
+-- ---- the activity of the land
+
+-- Every row passes 21, and so does what is read past the last: 0.
+record Fresh (land : List ℤ) : Type 0 where
+  each : (i : ℕ) → activityOutside (landFrom land (landWidth * i)) ≡ false
+
+month-fresh : (weather land : List ℤ) (j : ℕ) → Fresh land → activityOutside (entriesAt weather land j .land) ≡ false
+unfolding entriesAt
+month-fresh weather land j fresh = fresh .each j
+
+none-fresh : (i : ℕ) → activityOutside (landFrom [] (landWidth * i)) ≡ false
+unfolding activityOutside landFrom
+none-fresh i = refl
+
+-- A row of activity 1000 before such rows.
+row-fresh : (l : Land) (later : List ℤ) → activityOutside l ≡ false → Fresh later → Fresh (landNumbers l ++ later)
+row-fresh l later own fresh = record { each = at }
+  where
+    at : (i : ℕ) → activityOutside (landFrom (landNumbers l ++ later) (landWidth * i)) ≡ false
+    at zero = rw (land-back [] later l) own
+    at (suc i) =
+        let next : landWidth * suc i ≡ length (landNumbers l) + landWidth * i = omega (arith, land-of-length l) in
+        rw (next, land-past (landNumbers l) later (landWidth * i)) (fresh .each i)
+
+-- The rows of a book's land, as many as are read, are such.
+then-fresh :
+    (row : LandLine) (line : ℕ) (later : ℕ → RowsRead) → ((next : ℕ) → Fresh (later next .numbers))
+    → Fresh (rowThen (landGives (asLand row)) line later .numbers)
+unfolding activityOutside
+then-fresh (LandLine.Row cover plant manure next) line later fresh =
+    row-fresh (landOf cover plant manure) (later next .numbers) refl (fresh next)
+then-fresh LandLine.Malformed line later fresh = record { each = none-fresh }
+
+land-fresh : (count : ℕ) (s : List ℕ) (at line : ℕ) → Fresh (readLand count s at line .numbers)
+unfolding readLand readRows landRow
+land-fresh zero s at line = record { each = none-fresh }
+land-fresh (suc count) s at line = then-fresh (landLine s at) line _ (λ next. land-fresh count s next (suc line))
+
 -- ---- the months
 
--- A month that 12, 13, 14 and 19 let pass is refused by one of 15 to 17, ..
+-- A month that 12, 13, 14, 19 and 21 let pass is refused by one of 15 to 17, ..
 entries-find :
     {r : Refusal} (s : State) (e : Entries) → s .months < monthLimit → weatherCheck (e .weather) ≡ Pass
-    → entriesCheck s e ≡ Refuse r → refusesBook r ≡ true
+    → activityOutside (e .land) ≡ false → entriesCheck s e ≡ Refuse r → refusesBook r ≡ true
 unfolding firstOf entriesAsked limitReached carbonAsked landAsked
-entries-find s e few passes h =
-    finds-own refusesBook (carbonAsked s (e .land)) refl
+entries-find s e few passes fresh h =
+    finds-own refusesBook (carbonAsked s (e .land)) (rw fresh refl)
     (rw (lt-leb monthLimit (s .months) few, first-append (weatherAsked (e .weather)) (carbonAsked s (e .land)), passes) at h)
 
 month-finds :
     {r : Refusal} (s : State) (e : Entries) → s .months < monthLimit → weatherCheck (e .weather) ≡ Pass
-    → listMonth s e .answer ≡ month.Refused r → refusesBook r ≡ true
+    → activityOutside (e .land) ≡ false → listMonth s e .answer ≡ month.Refused r → refusesBook r ≡ true
 unfolding listMonth outcomeOf
-month-finds {r} s e few passes h = entries-find s e few passes (by-check (entriesCheck s e) h)
+month-finds {r} s e few passes fresh h = entries-find s e few passes fresh (by-check (entriesCheck s e) h)
   where
     by-check : (check : Check) → outcomeOf check s e .answer ≡ month.Refused r → check ≡ Refuse r
     by-check Pass h = absurd (let z : _≡_ {A = ℕ} 0 1 = cc in omega arith)
@@ -109,20 +148,23 @@ month-finds {r} s e few passes h = entries-find s e few passes (by-check (entrie
 -- .. and so are months that don't come to 12.
 months-find :
     {weather land : List ℤ} {left j : ℕ} {s : State} {out : List ℕ} {end : Left} {r : Refusal} {place : ℕ}
-    → AllPass weather → Course weather land left j s out end → s .months + left ≤ monthLimit
+    → AllPass weather → Fresh land → Course weather land left j s out end → s .months + left ≤ monthLimit
     → end .outcome .answer ≡ answers.Refused r place → refusesBook r ≡ true
-months-find all courses.finished few h = absurd (let z : _≡_ {A = ℕ} 0 1 = cc in omega arith)
-months-find {weather} {land} {j} {s} {r} all (courses.refused reason e) few h =
+months-find all fresh courses.finished few h = absurd (let z : _≡_ {A = ℕ} 0 1 = cc in omega arith)
+months-find {weather} {land} {j} {s} {r} all fresh (courses.refused reason e) few h =
     let same : reason ≡ r = cc in
-    month-finds s (entriesAt weather land j) (omega arith) (month-passes weather land j all) (e ∙ ap month.Refused same)
-months-find {weather} {land} {j} {s} all (courses.month row e later) few h =
-    months-find all later (omega (arith, done-months s (entriesAt weather land j) row e)) h
+    month-finds s (entriesAt weather land j) (omega arith) (month-passes weather land j all) (month-fresh weather land j fresh)
+    (e ∙ ap month.Refused same)
+months-find {weather} {land} {j} {s} all fresh (courses.month row e later) few h =
+    months-find all fresh later (omega (arith, done-months s (entriesAt weather land j) row e)) h
 
 list-finds :
-    {r : Refusal} {place : ℕ} (soil : Soil) (weather land : List ℤ) (rows : List ℕ) → AllPass weather → length land ≤ landWidth * 1200
+    {r : Refusal} {place : ℕ} (soil : Soil) (weather land : List ℤ) (rows : List ℕ) → AllPass weather → Fresh land
+    → length land ≤ landWidth * 1200
     → months (landRows land) weather land 0 (newState soil) rows .outcome .answer ≡ answers.Refused r place → refusesBook r ≡ true
 unfolding newState
-list-finds soil weather land rows all few h = months-find all (course weather land (landRows land) 0 (newState soil) rows) (omega arith) h
+list-finds soil weather land rows all fresh few h =
+    months-find all fresh (course weather land (landRows land) 0 (newState soil) rows) (omega arith) h
 
 -- ---- how a book ends
 
@@ -210,7 +252,7 @@ module _ (s : List ℕ) where
       let land = readLand count s at (head + 1) in
       let few : length (land .numbers) ≤ landWidth * 1200 = omega (arith, counted .most, rows-most land-kind count s at (head + 1)) in
       let left = landMonths land weather (newState soil) rows in
-      by-months (left .outcome .answer) head _ (λ r place h. list-finds soil weather (land .numbers) rows all few h)
+      by-months (left .outcome .answer) head _ (λ r place h. list-finds soil weather (land .numbers) rows all (land-fresh count s at (head + 1)) few h)
       (by-land (head + 1 + count) (left .outcome .state) counted (rows-only land-kind count s at (head + 1)) rest)
 
 good-count : (n : ℕ) → badCount n ≡ false → Counted n
@@ -278,7 +320,7 @@ module _ {months : ℕ} {pools co2 : Grams} (s rows : List ℕ) (h : bookOf s ro
 
 -- ---- a book that is refused
 
--- 8 to 12, 18 and 19 never refuse it.
+-- 8 to 12 and 18 to 22 never refuse it.
 pub book-numbers : (s rows : List ℕ) (refusal : Refusal) (line : ℕ) → bookOf s rows .answer ≡ Refused refusal line → refusesBook refusal ≡ true
 book-numbers s rows refusal line h = of-ends (rw h at (book-ends s rows))
   where

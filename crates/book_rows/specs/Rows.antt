@@ -36,12 +36,14 @@ weatherFor source temperature rain evaporation =
       source = source;
     }
 
--- The weather and the land of a book's line. Its evaporation is open pan's: "book rows 0".
+-- The weather and the land of a book's line. Its evaporation is open pan's: "book rows 0"; the
+-- activity of its additions is that of fresh carbon: "book rows get 1000".
 abbrev pub weatherOf : ℤ → ℕ → ℕ → Weather
 weatherOf temperature rain evaporation = weatherFor (pos 0) temperature rain evaporation
 
 abbrev pub landOf : ℕ → ℕ → ℕ → Land
-landOf cover plant manure = record { cover = pos cover; plant = pos plant; manure = pos manure }
+landOf cover plant manure =
+    record { cover = pos cover; plant = pos plant; manure = pos manure; activity = pos 1000 }
 
 -- A line of weather: another form is refused by its number (2 in a book, 18 in a table), then 13,
 -- 14 and 19 are asked.
@@ -65,7 +67,7 @@ pub record LineFits (line : WeatherLine) : Type 0 where
 unfoldable pub weatherRow : List ℕ → ℕ → WeatherRow
 weatherRow s place = asWeather Form (pos 0) (weatherLine s place)
 
--- A land line: another form is 2. (15 to 17 are asked when its month runs.)
+-- A land line: another form is 2. (15 to 17 and 21 are asked when its month runs.)
 abbrev pub asLand : LandLine → LandRow
 asLand (LandLine.Row cover plant manure next) = lands.Row (landOf cover plant manure) next
 asLand LandLine.Malformed = lands.Refused Form

@@ -18,6 +18,9 @@ use month_refusals::Refusal;
 use month_state::Land;
 use month_state::Weather;
 
+// The activity of a book's additions, in thousandths: that of fresh carbon.
+const FRESH: i64 = 1000;
+
 // A weather line: its row with the place of the next line, or why it is refused.
 pub enum WeatherRow {
     Row(Weather, usize),
@@ -75,6 +78,7 @@ fn land_row(s: &[u8], place: usize) -> LandRow
         cover: cover as i64,
         plant: plant as i64,
         manure: manure as i64,
+        activity: FRESH,
     };
     LandRow::Row(row, next)
 }

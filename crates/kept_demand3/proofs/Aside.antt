@@ -9,14 +9,14 @@ use Rattle.month_state.specs.declared.Entries.{Entries}
 use Rattle.month_state.specs.State.{keptLimit, keptAside}
 use Rattle.month_refusals.specs.declared.Check.{Check}
 use Rattle.month_refusals.specs.declared.Check.the-variants.{Pass, Refuse}
-use Rattle.month_refusals.specs.Refusals.{boundsPassed, outOfTurn, limitReached, ceilingPassed}
+use Rattle.month_refusals.specs.Refusals.{carbonBoundsPassed, modernAbove, boundsPassed, outOfTurn, limitReached, ceilingPassed}
 use Rattle.month_refusals.specs.Refusals.{boundsAsked, stateAsked, turnAsked, carbonAsked, entriesAsked, monthAsked, monthCheck}
 use Rattle.month_call.specs.declared.Outcome.{Outcome}
 use Rattle.month_call.specs.Month.{nextDeficit, nextRate, movedTo, outcomeOf, monthCall}
 
 -- The kept ones aside, the same is found, ..
 check-aside : (s : State) (number : ℕ) (e : Entries) → s .kept ≤ keptLimit → monthCheck s number e ≡ monthCheck (keptAside s) number e
-unfolding monthAsked stateAsked boundsAsked boundsPassed turnAsked outOfTurn entriesAsked limitReached carbonAsked ceilingPassed
+unfolding monthAsked stateAsked boundsAsked boundsPassed carbonBoundsPassed modernAbove turnAsked outOfTurn entriesAsked limitReached carbonAsked ceilingPassed
 check-aside s number e few = rw (le-ltb keptLimit (s .kept) few)
 
 -- .. and what is found gives the same outcome.

@@ -99,7 +99,7 @@ module _ (f : Field) (lent : Lent f) (none : f .state .kept ≡ 0) (acts : List 
   at-end : HoldsAll (f .state) (runActs f acts) (remain f acts [])
   at-end =
       acts-hold acts f
-      (subst (λ (n : ℕ). Holds (f .state) f n []) (sym none) (holds-none f (lent .pools) (omega arith) (lent .memory)))
+      (subst (λ (n : ℕ). Holds (f .state) f n []) (sym none) (holds-none f (record { pools = lent .pools; modern = lent .modern }) (omega arith) (lent .memory)))
 
   ends : EndsAsRemaining f acts
   unfolding runCalls acceptedCalls
@@ -113,7 +113,7 @@ module _ (f : Field) (lent : Lent f) (none : f .state .kept ≡ 0) (acts : List 
 module _ (s : Soil) (four : length (s .pools) ≡ 4) (memory : List ℕ) (long : length memory ≡ memoryWidth) (acts : List Act) where
   new-ends : EndsAsRemaining (newField s memory) acts
   unfolding newState
-  new-ends = ends (newField s memory) (record { pools = four; memory = long }) refl acts
+  new-ends = ends (newField s memory) (record { pools = four; modern = four; memory = long }) refl acts
 
   for-acts : soilCheck s ≡ Pass → FieldDemand3For s memory acts
   for-acts sound =

@@ -7,15 +7,15 @@ use Prim.Native.Nat.{ℕ, zero, suc, _+_, _-_, _≤_}
 use native.Mathlib.Omega.{arith}
 use native.Mathlib.Decide.{decLe}
 use lib.ListN.{length, drop}
-use Rattle.step_additions.specs.Additions.{added}
 use Rattle.month_state.specs.declared.State.{State}
 use Rattle.month_state.specs.State.{keptLimit, keptAside, oneMoreKept}
 use Rattle.month_state.proofs.Kept.{one-more, no-more, one-more-most}
 use Rattle.month_layouts.specs.Layouts.{memoryWidth}
+use Rattle.month_layouts.proofs.Layouts.{Four}
 use Rattle.month_refusals.specs.declared.Check.the-variants.{Pass}
 use Rattle.month_refusals.specs.Refusals.{monthCheck}
 use Rattle.month_call.specs.declared.Outcome.{Outcome}
-use Rattle.month_call.specs.Month.{poolsAfter, movedTo, outcomeOf}
+use Rattle.month_call.specs.Month.{movedTo, outcomeOf}
 use Rattle.month_call.proofs.Laws.{accepted-runs, accepted-moves}
 use Rattle.month_demand3.specs.Calls.{Call, stateAfter}
 use Rattle.kept_months.specs.Kept.{keep, latest}
@@ -32,14 +32,15 @@ alone start (c ∷ earlier) = stateAfter (alone start earlier) c
 
 -- Each is accepted in its turn, from a state of four pools with at most 24 kept.
 pub data InTurn (start : State) : List Call → Type 0 where
-  none : length (start .soil .pools) ≡ 4 → start .kept ≤ keptLimit → InTurn start []
+  none : Four start → start .kept ≤ keptLimit → InTurn start []
   more : {c : Call} {earlier : List Call} → monthCheck (alone start earlier) (c .number) (c .entries) ≡ Pass
       → InTurn start earlier → InTurn start (c ∷ earlier)
 
 -- An accepted call leaves four pools.
-after-four : (t : State) (c : Call) → monthCheck t (c .number) (c .entries) ≡ Pass → length (stateAfter t c .soil .pools) ≡ 4
-unfolding outcomeOf movedTo poolsAfter added
-after-four t c passed = ap (λ (o : Outcome). length (o .state .soil .pools)) (accepted-runs t (c .number) (c .entries) passed)
+after-four : (t : State) (c : Call) → monthCheck t (c .number) (c .entries) ≡ Pass → Four (stateAfter t c)
+after-four t c passed =
+    let four = accepted-moves t (c .number) (c .entries) passed .four in
+    record { pools = four .0; modern = four .1 }
 
 -- Each is a month more, and the state has four pools and at most 24 kept.
 alone-months : {start : State} {earlier : List Call} → InTurn start earlier → alone start earlier .months ≡ start .months + length earlier
@@ -47,7 +48,7 @@ unfolding alone
 alone-months (none four few) = omega arith
 alone-months (more passed turns) = omega (arith, accepted-moves _ _ _ passed .months, alone-months turns)
 
-alone-four : {start : State} {earlier : List Call} → InTurn start earlier → length (alone start earlier .soil .pools) ≡ 4
+alone-four : {start : State} {earlier : List Call} → InTurn start earlier → Four (alone start earlier)
 unfolding alone
 alone-four (none four few) = four
 alone-four (more {c} {earlier} passed turns) = after-four (alone _ earlier) c passed
@@ -90,7 +91,7 @@ pub record Holds (start : State) (f : Field) (n : ℕ) (earlier : List Call) : T
   pub long : length (f .memory) ≡ memoryWidth
 
 -- Before any call.
-pub holds-none : (f : Field) → length (f .state .soil .pools) ≡ 4 → f .state .kept ≤ keptLimit → length (f .memory) ≡ memoryWidth
+pub holds-none : (f : Field) → Four (f .state) → f .state .kept ≤ keptLimit → length (f .memory) ≡ memoryWidth
     → Holds (f .state) f 0 []
 unfolding alone
 holds-none f four few long =
@@ -114,8 +115,13 @@ module _ {start : State} {f : Field} {n : ℕ} {earlier : List Call} (h : Holds 
   field-months : f .state .months ≡ start .months + length earlier
   field-months = ap (λ (t : State). t .months) (h .same) ∙ alone-months (h .turns)
 
-  field-four : length (f .state .soil .pools) ≡ 4
-  field-four = ap (λ (t : State). length (t .soil .pools)) (h .same) ∙ alone-four (h .turns)
+  field-four : Four (f .state)
+  field-four =
+      let four = alone-four (h .turns) in
+      record {
+        pools = ap (λ (t : State). length (t .soil .pools)) (h .same) ∙ four .pools;
+        modern = ap (λ (t : State). length (t .modern)) (h .same) ∙ four .modern;
+      }
 
   -- A call that it accepts is accepted after the calls run alone too, ..
   moved-turns : (c : Call) → monthCheck (f .state) (c .number) (c .entries) ≡ Pass → InTurn start (c ∷ earlier)

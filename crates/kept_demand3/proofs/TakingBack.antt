@@ -118,7 +118,7 @@ few-kept f c later all =
 as-before : (f : Field) → Lent f → (c : Call) (later : List Call) → acceptedCalls (f .state) (c ∷ later) ≡ suc (length later)
     → suc (length later) ≤ keptLimit → Holds (f .state) (runActs f (calls (c ∷ later) ++ backs (suc (length later)))) 0 []
 as-before f lent c later all short =
-    returned (c ∷ later) f all (omega arith) (holds-none f (lent .pools) (few-kept f c later all) (lent .memory))
+    returned (c ∷ later) f all (omega arith) (holds-none f (record { pools = lent .pools; modern = lent .modern }) (few-kept f c later all) (lent .memory))
 
 restored : (f : Field) → Lent f → (months : List Call) → acceptedCalls (f .state) months ≡ length months → length months ≤ keptLimit
     → keptAside (runActs f (calls months ++ backs (length months)) .state) ≡ keptAside (f .state)

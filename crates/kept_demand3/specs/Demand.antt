@@ -17,9 +17,10 @@ use Rattle.month_demand3.specs.Recurrence.{Exact, Leads, exactStart, feed}
 use Rattle.month_demand3.specs.Demand.{totalDistance, Demand3For}
 use Rattle.kept_demand3.specs.Acts.{Act, Field, newField, runActs, remaining, calls}
 
--- A field as a call is lent it: four pools, and memory of 24 places.
+-- A field as a call is lent it: four pools and their modern grams, and memory of 24 places.
 pub record Lent (f : Field) : Type 0 where
   pub pools : length (f .state .soil .pools) ≡ 4
+  pub modern : length (f .state .modern) ≡ 4
   pub memory : length (f .memory) ≡ memoryWidth
 
 -- The list "ends in the same state, kept months aside, as its accepted months that remain, run

@@ -9,7 +9,7 @@ use lib.ListN.{length}
 use Rattle.month_state.specs.declared.State.{State}
 use Rattle.month_state.specs.State.{keptAside, withKept}
 use Rattle.month_layouts.specs.Layouts.{keptWidth, memoryWidth, stateFrom}
-use Rattle.month_layouts.proofs.Layouts.{put-back, put-apart}
+use Rattle.month_layouts.proofs.Layouts.{Four, put-back, put-apart}
 use Rattle.kept_months.specs.Kept.{placeOf, keep, latest}
 
 -- The state at the place of so many months, with none kept beside it.
@@ -21,7 +21,7 @@ readAt memory months = stateFrom memory (keptWidth * placeOf months) 0
 room : (months : ℕ) → keptWidth * placeOf months + keptWidth ≤ memoryWidth
 room months = omega arith
 
-pub keep-there : (s : State) (memory : List ℕ) → length (s .soil .pools) ≡ 4 → length memory ≡ memoryWidth
+pub keep-there : (s : State) (memory : List ℕ) → Four s → length memory ≡ memoryWidth
     → readAt (keep s memory) (s .months) ≡ keptAside s
 unfolding keep
 keep-there s memory four long = put-back memory (keptWidth * placeOf (s .months)) s 0 four (omega (arith, room (s .months)))

@@ -7,6 +7,7 @@ ghost use Rattle.library_survival.specs.Calls.{hasSurvival, rothcSurvival, roth
 ghost use Rattle.library_month.specs.Calls.{rothcStart, rothcMonth};
 ghost use Rattle.library_back.specs.Calls.{rothcTakeBack};
 ghost use Rattle.library_list.specs.Calls.{rothcList, rothcSpinUp};
+ghost use Rattle.library_radiocarbon.specs.Calls.{rothcRadiocarbon, rothcAgeSurvival};
 ghost use Rattle.library_book.specs.Calls.{rothcBook};
 ghost use Rattle.library_table.specs.Calls.{rothcTable};
 
@@ -88,6 +89,21 @@ pub extern "C" fn rothc_spin_up(
         (now (result .entry)) ⌝ }
 {
     library_list::spin_up(state, weather, land, years, result)
+}
+
+#[no_mangle]
+pub extern "C" fn rothc_radiocarbon(state: &[u64], pool: u64, report: &mut [i64]) -> u64
+    ensures { λ r. ⌜ record { number = r; report = now (report .exit) }
+        ≡ rothcRadiocarbon (now (state .entry)) pool (now (report .entry)) ⌝ }
+{
+    library_radiocarbon::radiocarbon(state, pool, report)
+}
+
+#[no_mangle]
+pub extern "C" fn rothc_age_survival(years: u64) -> u64
+    ensures { λ r. ⌜ r ≡ rothcAgeSurvival years ⌝ }
+{
+    library_radiocarbon::age_number(years)
 }
 
 #[no_mangle]

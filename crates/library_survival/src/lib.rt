@@ -9,7 +9,7 @@ use step_decay::pool_counted;
 use step_decay::survivals;
 
 // What is returned where there is no survival number.
-const NO_SURVIVAL: u64 = 18_446_744_073_709_551_615;
+pub const NO_SURVIVAL: u64 = 18_446_744_073_709_551_615;
 
 // Whether there is one: the pool is 0 DPM, 1 RPM, 2 BIO or 3 HUM, and a month can have the rate
 // number.

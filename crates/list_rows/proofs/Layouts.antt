@@ -69,9 +69,21 @@ unfolding landFrom landNumbers
 land-back before rest l =
     let all = landNumbers l ++ rest in
     λ i. record {
-      cover = getD-append-seam before (l .cover) (l .plant ∷ l .manure ∷ rest) (pos 0) i;
+      cover = getD-append-seam before (l .cover) (l .plant ∷ l .manure ∷ l .activity ∷ rest) (pos 0) i;
       plant = getD-append-add before all 1 (pos 0) i;
       manure = getD-append-add before all 2 (pos 0) i;
+      activity = getD-append-add before all 3 (pos 0) i;
+    }
+
+-- A land row is read past other numbers as it is without them.
+pub land-past : (before rest : List ℤ) (place : ℕ) → landFrom (before ++ rest) (length before + place) ≡ landFrom rest place
+unfolding landFrom
+land-past before rest place =
+    λ i. record {
+      cover = getD-append-add before rest place (pos 0) i;
+      plant = past before rest place 1 i;
+      manure = past before rest place 2 i;
+      activity = past before rest place 3 i;
     }
 
 -- ---- months' rows

@@ -18,7 +18,7 @@ abbrev pub weatherWidth : ℕ
 weatherWidth = 4
 
 abbrev pub landWidth : ℕ
-landWidth = 3
+landWidth = 4
 
 abbrev pub entriesWidth : ℕ
 entriesWidth = weatherWidth + landWidth
@@ -42,13 +42,14 @@ weatherFrom numbers place =
       source = signedAt numbers (place + 3);
     }
 
--- A land row from a place on: cover, plant, manure.
+-- A land row from a place on: cover, plant, manure, and the activity of both.
 unfoldable pub landFrom : List ℤ → ℕ → Land
 landFrom numbers place =
     record {
       cover = signedAt numbers place;
       plant = signedAt numbers (place + 1);
       manure = signedAt numbers (place + 2);
+      activity = signedAt numbers (place + 3);
     }
 
 -- A month's entries: a weather row, then a land row.
@@ -60,7 +61,7 @@ unfoldable pub weatherNumbers : Weather → List ℤ
 weatherNumbers w = w .temperature ∷ w .rain ∷ w .evaporation ∷ w .source ∷ []
 
 unfoldable pub landNumbers : Land → List ℤ
-landNumbers l = l .cover ∷ l .plant ∷ l .manure ∷ []
+landNumbers l = l .cover ∷ l .plant ∷ l .manure ∷ l .activity ∷ []
 
 -- ---- a month's row
 
@@ -96,9 +97,9 @@ weatherRows weather = length weather / weatherWidth
 abbrev pub landRows : List ℤ → ℕ
 landRows land = length land / landWidth
 
--- 3: "the number of weather or land rows lent to a list, is outside 1 to 1,200, or a list isn't
--- three numbers a row"; and "four numbers a weather row" (change 2026-01): so many numbers, in rows
--- of a width.
+-- 3: "the number of weather or land rows lent to a list, is outside 1 to 1,200", or so many numbers
+-- are no rows of a width: "four numbers a weather row" (change 2026-01), "four numbers a land row"
+-- (change 2026-04).
 unfoldable pub rowsOutside : ℕ → ℕ → Bool
 rowsOutside width count =
     not (eqb (count % width) 0) || (ltb (count / width) 1 || ltb 1200 (count / width))

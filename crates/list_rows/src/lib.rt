@@ -16,7 +16,7 @@ use month_state::Weather;
 // How many numbers each has.
 pub const WEATHER_WIDTH: usize = 4;
 
-pub const LAND_WIDTH: usize = 3;
+pub const LAND_WIDTH: usize = 4;
 
 pub const ENTRIES_WIDTH: usize = WEATHER_WIDTH + LAND_WIDTH;
 
@@ -44,6 +44,7 @@ fn land_from(numbers: &[i64], place: usize) -> Land
         cover: numbers[place],
         plant: numbers[place + 1],
         manure: numbers[place + 2],
+        activity: numbers[place + 3],
     }
 }
 
@@ -81,10 +82,12 @@ pub fn put_land(numbers: &mut [i64], i: usize, l: Land)
     let cover = l.cover;
     let plant = l.plant;
     let manure = l.manure;
+    let activity = l.activity;
     let place = LAND_WIDTH * i;
     numbers[place] = cover;
     numbers[place + 1] = plant;
     numbers[place + 2] = manure;
+    numbers[place + 3] = activity;
 }
 
 // The row of the month at place j, counted from 0, written in lent memory.

@@ -5,9 +5,11 @@ use mathlib.Core.Path.{_≡_, refl, sym, _∙_, ap}
 use Prim.Native.Nat.{ℕ, _+_, _≤_, _<_, _^_}
 use native.Mathlib.Omega.{arith}
 use lib.IntN.{natAbs}
+use lib.ListN.{length}
 use Rattle.step_decay.specs.Rates.{survivals}
 use Rattle.step_pools.specs.Pools.{total}
 use Rattle.step_decay.specs.Decay.{Survivals}
+use Rattle.step_turnover.proofs.Laws.{turned-length}
 use Rattle.month_state.specs.declared.Soil.{Soil}
 use Rattle.month_state.specs.declared.State.{State}
 use Rattle.month_state.specs.declared.Entries.{Entries}
@@ -20,10 +22,10 @@ use Rattle.month_refusals.proofs.First.{foundAt, found-at, exactly}
 use Rattle.month_state.proofs.Kept.{one-more-most}
 use Rattle.month_refusals.proofs.Accepted.{Sound, Ready, sound-state, state-passes, natural-most, ready, month-parts, month-is-entries}
 use Rattle.month_call.specs.declared.Answer.the-variants.{Refused}
-use Rattle.month_call.specs.Month.{largestDeficit, nextDeficit, nextRate, movedTo, Accepted, outcomeOf, monthCall, listMonth}
+use Rattle.month_call.specs.Month.{largestDeficit, poolsAfter, modernAfter, nextDeficit, nextRate, movedTo, Accepted, outcomeOf, monthCall, listMonth}
 use Rattle.month_call.specs.declared.AfterSteps.{AfterSteps}
 use Rattle.month_call.specs.Month.{stepsOf, answerFound, answerTold}
-use Rattle.month_call.proofs.Steps.{deficit-most, state-rate-most, survivals-in-range, month-balance}
+use Rattle.month_call.proofs.Steps.{deficit-most, state-rate-most, survivals-in-range, month-balance, modern-after-most}
 
 -- ---- acceptance
 
@@ -101,6 +103,8 @@ pub record Moved (s : State) (e : Entries) (after : State) : Type 0 where
       total (after .soil .pools) + after .co2 .0
       ≡ total (s .soil .pools) + s .co2 .0 + natAbs (e .land .plant) + natAbs (e .land .manure)
   pub pools : total (after .soil .pools) ≤ total (s .soil .pools) + natAbs (e .land .plant) + natAbs (e .land .manure)
+  -- there are four pools again, and modern grams of four
+  pub four : (length (after .soil .pools) ≡ 4) × (length (after .modern) ≡ 4)
   -- an accepted state is never refused by 4 to 10 afterwards
   pub sound : Sound after
 
@@ -142,7 +146,12 @@ module _ (s : State) (e : Entries) (h : Sound s) (r : Ready s e) where
         months = omega (arith, r .months);
         kept = one-more-most (s .kept);
         carbon = omega (arith, balance, h .carbon, plant, manure);
+        modern = omega (arith, h .modern, modern-after-most (s .soil) (s .modern) (nextRate s e) (e .land) (h .soil) rate-range (r .land));
       }
+
+  four : (length (nextState s e .soil .pools) ≡ 4) × (length (nextState s e .modern) ≡ 4)
+  unfolding movedTo poolsAfter modernAfter
+  four = (turned-length _ _ _ _ _ _, turned-length _ _ _ _ _ _)
 
   pub moved : Moved s e (nextState s e)
   unfolding movedTo
@@ -153,6 +162,7 @@ module _ (s : State) (e : Entries) (h : Sound s) (r : Ready s e) where
         deficit = deficit-most s e h;
         balance = balance;
         pools = lighter;
+        four = four;
         sound = next-sound;
       }
 

@@ -3,12 +3,14 @@
 -- Assumes nothing.
 use mathlib.Core.Path.{_≡_, refl, sym}
 use mathlib.Core.Bool.{Bool, true, false}
+use mathlib.Core.List.{List}
 use Prim.Native.Nat.{ℕ, _+_, _≤_, _<_}
 use native.Mathlib.Nat.{mul-le-mul}
 use native.Mathlib.Omega.{arith}
 use lib.Dec.{lit≤}
 use lib.IntN.{ℤ, pos, negsuc, natAbs}
 use lib.Signed.{ltZ, _≤ℤ_}
+use Rattle.number_units.specs.declared.Grams.{Grams}
 use Rattle.step_factors.specs.Factors.{temperatureFactor, clayNumber}
 use Rattle.step_factors.proofs.Laws.{clay-most}
 use Rattle.step_factors.proofs.Places.{place, below-table, in-table}
@@ -17,15 +19,16 @@ use Rattle.step_survival.specs.Survival.{coverFactor, rateNumber}
 use Rattle.step_survival.proofs.Laws.{is-survival}
 use Rattle.step_decay.specs.Rates.{survivals}
 use Rattle.step_pools.specs.Pools.{total}
-use Rattle.step_decay.specs.Decay.{Survivals, decayed}
-use Rattle.step_decay.proofs.Laws.{decay-balance}
-use Rattle.step_additions.proofs.Laws.{added-balance}
+use Rattle.step_decay.specs.Decay.{Survivals}
+use Rattle.step_turnover.proofs.Laws.{turned-balance, turned-most}
+use Rattle.step_modern.specs.Modern.{modernGrams, aged}
+use Rattle.step_modern.proofs.Laws.{modern-most, aged-most}
 use Rattle.month_state.specs.declared.Soil.{Soil}
 use Rattle.month_state.specs.declared.State.{State}
 use Rattle.month_state.specs.declared.Land.{Land}
 use Rattle.month_state.specs.declared.Entries.{Entries}
-use Rattle.month_refusals.proofs.Accepted.{SoundSoil, Sound, Ready}
-use Rattle.month_call.specs.Month.{crop, largestDeficit, deficitAfter, rateAfter, nextDeficit, nextRate, poolsAfter, gasOf}
+use Rattle.month_refusals.proofs.Accepted.{SoundSoil, Sound, LandReady, Ready, natural-most}
+use Rattle.month_call.specs.Month.{crop, largestDeficit, deficitAfter, rateAfter, nextDeficit, nextRate, poolsAfter, gasOf, modernAfter}
 
 temperature-by : (t : ℤ) (b : Bool) → ltZ t (negsuc 49) ≡ b → t ≤ℤ pos 500 → temperatureFactor t ≤ 83639
 temperature-by t true low high = rw (sym (below-table t low .0)) (lit≤ tt)
@@ -81,23 +84,31 @@ survivals-in-range n h =
       hum = is-survival n 2 h (lit≤ tt) .inRange;
     }
 
--- Step 5 takes nothing from the pools but the month's CO2.
-pub decay-total :
-    (s : Soil) (n : ℕ) → SoundSoil s → n ≤ 8363900000
-    → total (decayed (s .pools) (survivals n) (clayNumber (s .clay))) + gasOf s n ≡ total (s .pools)
-unfolding gasOf
-decay-total s n h m =
-    decay-balance (s .pools) (survivals n) (clayNumber (s .clay)) (survivals-in-range n m)
-    (omega (arith, clay-number-most (s .clay) (h .clay)))
-
 -- The balance of a month: the pools after it and its CO2 are the pools before it, the plant carbon and the manure.
 pub month-balance :
     (s : Soil) (n : ℕ) (l : Land) → SoundSoil s → n ≤ 8363900000
     → total (poolsAfter s n l) + gasOf s n ≡ total (s .pools) + natAbs (l .plant) + natAbs (l .manure)
-unfolding poolsAfter
+unfolding poolsAfter gasOf
 month-balance s n l h m =
+    turned-balance (s .pools) (survivals n) (clayNumber (s .clay)) (s .kind) (natAbs (l .plant)) (natAbs (l .manure))
+    (survivals-in-range n m) (omega (arith, clay-number-most (s .clay) (h .clay)))
+
+-- The modern grams after it are at most those before it and what the additions can bring: twice 100,000,000 each.
+pub modern-after-most :
+    (s : Soil) (modern : List Grams) (n : ℕ) (l : Land) → SoundSoil s → n ≤ 8363900000 → LandReady l
+    → total (modernAfter s modern n l) ≤ total modern + 400000000
+unfolding modernAfter
+modern-after-most s modern n l h m ready =
+    let activity = natural-most 2000 (l .activity) (ready .activity) in
     omega (
       arith,
-      decay-total s n h m,
-      added-balance (decayed (s .pools) (survivals n) (clayNumber (s .clay))) (s .kind) (natAbs (l .plant)) (natAbs (l .manure)),
+      turned-most (aged modern) (survivals n) (clayNumber (s .clay)) (s .kind)
+          (modernGrams (natAbs (l .plant)) (natAbs (l .activity))) (modernGrams (natAbs (l .manure)) (natAbs (l .activity)))
+          (survivals-in-range n m)
+          (omega (arith, clay-number-most (s .clay) (h .clay))),
+      aged-most modern,
+      modern-most (natAbs (l .plant)) activity,
+      modern-most (natAbs (l .manure)) activity,
+      natural-most 100000000 (l .plant) (ready .plant),
+      natural-most 100000000 (l .manure) (ready .manure),
     )

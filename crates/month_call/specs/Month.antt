@@ -11,9 +11,9 @@ use Rattle.step_factors.specs.Factors.{temperatureFactor, clayNumber}
 use Rattle.step_water.specs.Water.{maxDeficit, newDeficit, moistureFactor}
 use Rattle.step_survival.specs.Survival.{rateNumber}
 use Rattle.step_decay.specs.Rates.{survivals}
-use Rattle.step_pools.specs.Pools.{grams, gramsAt, total}
-use Rattle.step_decay.specs.Decay.{losses, carbonDioxide, decayed}
-use Rattle.step_additions.specs.Additions.{added}
+use Rattle.step_pools.specs.Pools.{grams, gramsAt}
+use Rattle.step_turnover.specs.Turnover.{turnedOver, released}
+use Rattle.step_modern.specs.Modern.{modernGrams, aged}
 use Rattle.month_state.specs.declared.Soil.{Soil}
 use Rattle.month_state.specs.declared.State.{State}
 use Rattle.month_state.specs.declared.Weather.{Weather}
@@ -58,14 +58,24 @@ rateAfter s d e =
     rateNumber (crop (e .land)) (temperatureFactor (e .weather .temperature))
     (moistureFactor (largestDeficit s) d)
 
--- Steps 5 and 6: the pools after a month of rate number n. The additions come after the decay.
+-- Steps 5 and 6: the pools after a month of rate number n.
 unfoldable pub poolsAfter : Soil → ℕ → Land → List Grams
 poolsAfter s n l =
-    added (decayed (s .pools) (survivals n) (clayNumber (s .clay))) (s .kind) (natAbs (l .plant)) (natAbs (l .manure))
+    turnedOver (s .pools) (survivals n) (clayNumber (s .clay)) (s .kind)
+    (natAbs (l .plant)) (natAbs (l .manure))
 
 -- Step 5: the CO2 of a month of rate number n.
 unfoldable pub gasOf : Soil → ℕ → ℕ
-gasOf s n = carbonDioxide (total (losses (s .pools) (survivals n))) (clayNumber (s .clay))
+gasOf s n = released (s .pools) (survivals n) (clayNumber (s .clay))
+
+-- The modern grams after a month of rate number n (change 2026-04): first the radioactive loss,
+-- then the same two steps, with the carbon's survival numbers, clay number and kind, and with what
+-- plant and manure bring by their activity, each rounded down.
+unfoldable pub modernAfter : Soil → List Grams → ℕ → Land → List Grams
+modernAfter s modern n l =
+    turnedOver (aged modern) (survivals n) (clayNumber (s .clay)) (s .kind)
+    (modernGrams (natAbs (l .plant)) (natAbs (l .activity)))
+    (modernGrams (natAbs (l .manure)) (natAbs (l .activity)))
 
 -- ---- the month
 
@@ -74,8 +84,8 @@ abbrev pub withPools : Soil → List Grams → Soil
 withPools s pools =
     record { clay = s .clay; depth = s .depth; kind = s .kind; pools = pools; iom = s .iom }
 
--- The state after an accepted month: active pools, D, months done and CO2 to date moved on, and one
--- more kept. d is the new deficit and n the rate number, here and in the row.
+-- The state after an accepted month: active pools, D, months done, CO2 to date and modern grams
+-- moved on, and one more kept. d is the new deficit and n the rate number, here and in the row.
 unfoldable pub movedTo : State → Land → ℕ → ℕ → State
 movedTo s l d n =
     record {
@@ -83,6 +93,7 @@ movedTo s l d n =
       deficit = record { 0 = d };
       months = s .months + 1;
       co2 = grams (s .co2 .0 + gasOf (s .soil) n);
+      modern = modernAfter (s .soil) (s .modern) n l;
       kept = oneMoreKept (s .kept);
     }
 
@@ -106,18 +117,20 @@ nextDeficit s e = deficitAfter (s .soil) (s .deficit .0) e
 unfoldable pub nextRate : State → Entries → ℕ
 nextRate s e = rateAfter (s .soil) (nextDeficit s e) e
 
--- What a state and its month's entries have to pass: 4 to 7 and 10, and 12 to 17 with 19.
+-- What a state and its month's entries have to pass: 4 to 7 and 10, and 12 to 17 with 19 and 21.
 pub record Accepted (s : State) (e : Entries) : Type 0 where
   pub state : stateCheck s ≡ Pass
   pub entries : entriesCheck s e ≡ Pass
 
--- Steps 1 to 6 of a state's month: the pools after it, its CO2 and the new deficit.
+-- Steps 1 to 6 of a state's month: the pools after it, its CO2, the new deficit, and the modern
+-- grams after it.
 unfoldable pub stepsOf : State → Entries → AfterSteps
 stepsOf s e =
     record {
       pools = poolsAfter (s .soil) (nextRate s e) (e .land);
       co2 = grams (gasOf (s .soil) (nextRate s e));
       deficit = record { 0 = nextDeficit s e };
+      modern = modernAfter (s .soil) (s .modern) (nextRate s e) (e .land);
     }
 
 -- An accepted month gives its row and the state moved on; a refused one the refusal and the very
@@ -134,7 +147,7 @@ outcomeOf (Refuse refusal) s e = record { answer = Refused refusal; state = s }
 unfoldable pub monthCall : State → ℕ → Entries → Outcome
 monthCall s number e = outcomeOf (monthCheck s number e) s e
 
--- .. and a list's month, of which 12 to 17 and 19 are asked and no month number.
+-- .. and a list's month, of which 12 to 17, 19 and 21 are asked and no month number.
 unfoldable pub listMonth : State → Entries → Outcome
 listMonth s e = outcomeOf (entriesCheck s e) s e
 

@@ -3,19 +3,16 @@
 ghost use mathlib.Core.Path.{_≡_};
 ghost use Prim.Native.Nat.{_+_, _≤_, _<_, _^_};
 ghost use lib.IntN.{natAbs};
-ghost use Rattle.step_factors.specs.Factors.{clayNumber};
-ghost use Rattle.step_decay.specs.Rates.{survivals};
-ghost use Rattle.step_pools.specs.Pools.{total};
-ghost use Rattle.step_decay.specs.Decay.{decayed};
-ghost use Rattle.step_additions.specs.Additions.{added};
-ghost use Rattle.month_state.specs.State.{carbonCeiling};
+ghost use Rattle.step_decay.specs.Decay.{Survivals};
+ghost use Rattle.step_turnover.specs.Turnover.{turnedOver};
+ghost use Rattle.step_modern.specs.Modern.{modernGrams, aged};
 ghost use Rattle.month_state.specs.declared.Entries.{Entries};
 ghost use Rattle.month_refusals.specs.declared.Check.the-variants.{Pass};
 ghost use Rattle.month_refusals.specs.Asked.{at, told};
 ghost use Rattle.month_refusals.specs.Refusals.{monthAsked, stateCheck, weatherCheck, landCheck};
 ghost use Rattle.month_call.specs.declared.Answer.the-variants.{Refused};
 ghost use Rattle.month_call.specs.Month.{crop, potential, largestDeficit, nextDeficit};
-ghost use Rattle.month_call.specs.Month.{rateAfter, gasOf, Accepted, stepsOf, outcomeOf};
+ghost use Rattle.month_call.specs.Month.{rateAfter, Accepted, stepsOf, outcomeOf};
 ghost use Rattle.month_call.specs.Month.{monthCall, listMonth, answerTold};
 use month_checks::check_entries;
 use month_checks::check_month;
@@ -31,13 +28,13 @@ use month_state::natural;
 use month_state::one_more_kept;
 use number_units::Grams;
 use number_units::Parts;
-use step_additions::additions;
-use step_decay::Decayed;
-use step_decay::decay;
 use step_decay::survivals;
 use step_factors::clay_number;
 use step_factors::temperature_factor;
+use step_modern::aged;
+use step_modern::modern_grams;
 use step_survival::rate_number;
+use step_turnover::turn_over;
 use step_water::max_deficit;
 use step_water::moisture_factor;
 use step_water::new_deficit;
@@ -54,11 +51,20 @@ pub struct Outcome {
     pub state: State,
 }
 
-// What steps 1 to 6 give: the pools after the month, its CO2 and the new deficit.
+// What steps 1 to 6 give: the pools after the month, its CO2, the new deficit, and the modern grams
+// after it.
 struct AfterSteps {
     pools: [Grams; 4],
     co2: Grams,
     deficit: Parts,
+    modern: [Grams; 4],
+}
+
+// A month's additions and their activity in thousandths.
+struct Additions {
+    plant: Grams,
+    manure: Grams,
+    activity: u64,
 }
 
 // Whether a crop covers the soil.
@@ -107,33 +113,46 @@ fn rate_after(s: State, largest: Parts, d: Parts, e: Entries) -> u64
     rate_number(crop, a, b)
 }
 
-// Steps 4 and 5: the pools after decay at the rate number n, and the month's CO2.
-fn after_decay(s: State, n: u64) -> Decayed
-    requires { ⌜ (stateCheck s ≡ Pass) × (n ≤ 8363900000) ⌝ }
-    ensures pools { λ r. ⌜ r .pools
-        ≡ decayed (s .soil .pools) (survivals n) (clayNumber (s .soil .clay)) ⌝ }
-    ensures co2 { λ r. ⌜ r .co2 .0 ≡ gasOf (s .soil) n ⌝ }
+// A month's additions and their activity, as numbers without a sign.
+fn additions_of(l: Land) -> Additions
+    requires { ⌜ landCheck l ≡ Pass ⌝ }
+    ensures plant { λ g. ⌜ (g .plant .0 ≡ natAbs (l .plant)) × (g .plant .0 ≤ 100000000) ⌝ }
+    ensures manure { λ g. ⌜ (g .manure .0 ≡ natAbs (l .manure)) × (g .manure .0 ≤ 100000000) ⌝ }
+    ensures activity { λ g. ⌜ (g .activity ≡ natAbs (l .activity)) × (g .activity ≤ 2000) ⌝ }
 {
-    let soil = s.soil;
-    let pools = soil.pools;
-    let survival = survivals(n);
-    let r = clay_number(soil.clay);
-    decay(pools, survival, r)
-}
-
-// Step 6: the pools after decay with the month's additions.
-fn after_additions(s: State, pools: [Grams; 4], l: Land) -> [Grams; 4]
-    requires { ⌜ (stateCheck s ≡ Pass) × (landCheck l ≡ Pass) × (total pools ≤ carbonCeiling) ⌝ }
-    ensures { λ r. ⌜ r ≡ added pools (s .soil .kind) (natAbs (l .plant)) (natAbs (l .manure)) ⌝ }
-{
-    let soil = s.soil;
     let plant = natural(l.plant);
     let manure = natural(l.manure);
-    additions(pools, soil.kind, Grams(plant), Grams(manure))
+    let activity = natural(l.activity);
+    Additions {
+        plant: Grams(plant),
+        manure: Grams(manure),
+        activity,
+    }
 }
 
-// Steps 1 to 6 of an accepted month. Six numbers come back from it: the row and the state are built
-// of them where they are used, which saves copying both.
+// The modern grams after a month: a month older, then steps 5 and 6 as for carbon, with what the
+// additions bring by their activity.
+fn modern_after(s: State, survival: [u64; 4], r: u64, given: Additions) -> [Grams; 4]
+    requires steps { ⌜ (stateCheck s ≡ Pass) × Survivals survival × (r ≤ 1000000) ⌝ }
+    requires grams { ⌜ (given .plant .0 ≤ 100000000) × (given .manure .0 ≤ 100000000) ⌝ }
+    requires activity { ⌜ given .activity ≤ 2000 ⌝ }
+    ensures { λ t. ⌜ t ≡ turnedOver (aged (s .modern)) survival r (s .soil .kind)
+        (modernGrams (given .plant .0) (given .activity))
+        (modernGrams (given .manure .0) (given .activity)) ⌝ }
+{
+    let soil = s.soil;
+    let modern = s.modern;
+    let older = aged(modern);
+    let plant = modern_grams(given.plant, given.activity);
+    let manure = modern_grams(given.manure, given.activity);
+    let turned = turn_over(older, survival, r, soil.kind, plant, manure);
+    let after = turned.pools;
+    after
+}
+
+// Steps 1 to 6 of an accepted month. The row and the state are built of what comes back where they
+// are used, which saves copying both. Carbon and modern grams are turned over by the same survival
+// numbers and the same R.
 fn run_steps(s: State, e: Entries) -> AfterSteps
     requires { ⌜ Accepted s e ⌝ }
     ensures { λ r. ⌜ r ≡ stepsOf s e ⌝ }
@@ -143,14 +162,19 @@ fn run_steps(s: State, e: Entries) -> AfterSteps
     let largest = max_deficit(soil.clay, soil.depth);
     let deficit = deficit_after(s, largest, e);
     let n = rate_after(s, largest, deficit, e);
-    let left = after_decay(s, n);
-    let co2 = left.co2;
-    let left_pools = left.pools;
-    let pools = after_additions(s, left_pools, land);
+    let survival = survivals(n);
+    let r = clay_number(soil.clay);
+    let given = additions_of(land);
+    let before = soil.pools;
+    let carbon = turn_over(before, survival, r, soil.kind, given.plant, given.manure);
+    let modern = modern_after(s, survival, r, given);
+    let pools = carbon.pools;
+    let co2 = carbon.co2;
     AfterSteps {
         pools,
         co2,
         deficit,
+        modern,
     }
 }
 
@@ -166,6 +190,7 @@ fn done(s: State, after: AfterSteps) -> Outcome
     let pools = after.pools;
     let co2 = after.co2;
     let deficit = after.deficit;
+    let modern = after.modern;
     let row = Row {
         dpm: pools[0],
         rpm: pools[1],
@@ -187,6 +212,7 @@ fn done(s: State, after: AfterSteps) -> Outcome
         deficit,
         months: s.months + 1,
         co2: Grams(to_date.0 + co2.0),
+        modern,
         kept,
     };
     Outcome {

@@ -6,8 +6,8 @@ ghost use Rattle.month_refusals.specs.declared.Check.the-variants.{Pass};
 ghost use Rattle.month_refusals.specs.Asked.{Finds};
 ghost use Rattle.month_refusals.specs.Refusals.{outside, temperatureOutside, waterOutside};
 ghost use Rattle.month_refusals.specs.Refusals.{sourceOutside, coverOutside, additionsOutside};
-ghost use Rattle.month_refusals.specs.Refusals.{ceilingPassed, stateAsked, turnAsked, weatherAsked};
-ghost use Rattle.month_refusals.specs.Refusals.{landAsked, carbonAsked};
+ghost use Rattle.month_refusals.specs.Refusals.{activityOutside, ceilingPassed, stateAsked};
+ghost use Rattle.month_refusals.specs.Refusals.{turnAsked, weatherAsked, landAsked, carbonAsked};
 ghost use Rattle.month_refusals.specs.Refusals.{entriesAsked, monthAsked, stateCheck, landCheck};
 use month_refusals::Check;
 use month_refusals::Refusal;
@@ -21,7 +21,7 @@ use month_state::natural;
 use step_pools::total;
 
 // 4 to 7 and 10: a state that is lent.
-fn check_state(s: State) -> Check
+pub fn check_state(s: State) -> Check
     ensures { λ r. ⌜ Finds (stateAsked s) r ⌝ }
 {
     let soil = s.soil;
@@ -98,7 +98,14 @@ fn additions_outside(l: Land) -> bool
     outside(0, 100_000_000, l.manure)
 }
 
-// 15 and 16: what the land is given.
+// 21: the additions' activity is outside 0 to 2,000.
+fn activity_outside(l: Land) -> bool
+    ensures { λ r. ⌜ r ≡ activityOutside l ⌝ }
+{
+    outside(0, 2_000, l.activity)
+}
+
+// 15, 16 and 21: what the land is given.
 fn check_land(l: Land) -> Check
     ensures { λ r. ⌜ Finds (landAsked l) r ⌝ }
 {
@@ -107,6 +114,9 @@ fn check_land(l: Land) -> Check
     }
     if additions_outside(l) {
         return Check::Refuse(Refusal::Additions);
+    }
+    if activity_outside(l) {
+        return Check::Refuse(Refusal::Activity);
     }
     Check::Pass
 }
@@ -125,7 +135,7 @@ fn ceiling_passed(s: State, l: Land) -> bool
     State::CARBON_CEILING < active.0 + plant + manure
 }
 
-// 15 to 17: what the land is given, and the carbon that it makes up with the pools.
+// 15, 16, 21 and 17: what the land is given, and the carbon that it makes up with the pools.
 fn check_carbon(s: State, l: Land) -> Check
     requires { ⌜ stateCheck s ≡ Pass ⌝ }
     ensures { λ r. ⌜ Finds (carbonAsked s l) r ⌝ }
@@ -141,7 +151,8 @@ fn check_carbon(s: State, l: Land) -> Check
     }
 }
 
-// 12 to 17, with 19 after 14: the entries of a month of a state that passes 4 to 7 and 10.
+// 12 to 17, with 19 after 14 and 21 after 16: the entries of a month of a state that passes 4 to 7
+// and 10.
 pub fn check_entries(s: State, e: Entries) -> Check
     requires { ⌜ stateCheck s ≡ Pass ⌝ }
     ensures { λ r. ⌜ Finds (entriesAsked s e) r ⌝ }
@@ -158,7 +169,7 @@ pub fn check_entries(s: State, e: Entries) -> Check
     }
 }
 
-// 11, then 12 to 17 with 19 after 14, of a state that passes 4 to 7 and 10.
+// 11, then 12 to 17 with 19 after 14 and 21 after 16, of a state that passes 4 to 7 and 10.
 fn check_turn(s: State, number: u64, e: Entries) -> Check
     requires { ⌜ stateCheck s ≡ Pass ⌝ }
     ensures { λ r. ⌜ Finds (turnAsked s number ++ entriesAsked s e) r ⌝ }
@@ -170,7 +181,7 @@ fn check_turn(s: State, number: u64, e: Entries) -> Check
     check_entries(s, e)
 }
 
-// 4 to 7, 10 to 17, and 19 after 14: a single month call.
+// 4 to 7, 10 to 17, 19 after 14 and 21 after 16: a single month call.
 pub fn check_month(s: State, number: u64, e: Entries) -> Check
     ensures { λ r. ⌜ Finds (monthAsked s number e) r ⌝ }
 {

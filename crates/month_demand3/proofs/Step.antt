@@ -15,6 +15,7 @@ use Rattle.step_decay.specs.Rates.{survivals}
 use Rattle.step_pools.specs.Pools.{share, gramsAt, total}
 use Rattle.step_decay.specs.Decay.{Survivals, losses, formed, toBio, toHum, decayed}
 use Rattle.step_additions.specs.Additions.{added}
+use Rattle.step_turnover.specs.Turnover.{turnedOver}
 use Rattle.month_state.specs.declared.Soil.{Soil}
 use Rattle.month_state.specs.declared.State.{State}
 use Rattle.month_state.specs.declared.Entries.{Entries}
@@ -177,7 +178,7 @@ module _ (s : Soil) (e : Entries) (q : Fractions) (c : Common q) (x : Exact) (n 
   from-hundredths k = close-times 50935 (times-close (base * 1000000) k)
 
   month-apart : Apart (poolsAfter s n (e .land)) (exactMonth s e q x) (w ⊞ whole 19)
-  unfolding poolsAfter added decayed survivals exactMonth exactFormed formedDistance base
+  unfolding poolsAfter turnedOver added decayed survivals exactMonth exactFormed formedDistance base
   month-apart =
       record {
         den = den';

@@ -1,10 +1,10 @@
 -- Laws of the layouts. Numbers put from a place on are there, and everything else stays; what was put is read back; a field's state and
 -- its numbers are one another's, so that a refusal that gives back the state leaves its numbers as they were.
 -- Assumes nothing.
-use mathlib.Core.Path.{_≡_, refl, sym, _∙_, ap, subst}
+use mathlib.Core.Path.{_≡_, refl, sym, _∙_, ap, ap₂, subst}
 use mathlib.Core.List.{List, [], _∷_, _++_, append-assoc, append-nil}
 use Prim.Native.Nat.{ℕ, zero, suc, _+_, _-_, _*_, _≤_, _<_}
-use native.Mathlib.Nat.{add-suc, add-zero, zero-add}
+use native.Mathlib.Nat.{add-assoc, add-suc, add-zero, zero-add}
 use native.Mathlib.Numerals.{add-one}
 use native.Mathlib.Omega.{arith}
 use lib.Dec.{lit<}
@@ -16,7 +16,7 @@ use Rattle.number_units.specs.declared.Grams.{Grams}
 use Rattle.step_pools.specs.Pools.{grams}
 use Rattle.month_state.specs.declared.State.{State}
 use Rattle.month_state.specs.State.{withKept}
-use Rattle.month_layouts.specs.Layouts.{keptWidth, stateWidth, soilFrom, stateFrom, stateOf, keptNumbers, stateNumbers}
+use Rattle.month_layouts.specs.Layouts.{keptWidth, stateWidth, poolsFrom, soilFrom, stateFrom, stateOf, keptNumbers, stateNumbers}
 use Rattle.month_layouts.specs.Layouts.{memoryWidth, fieldWidth, memoryOf, fieldNumbers}
 
 -- ---- numbers of any kind, put from a place on
@@ -146,7 +146,7 @@ pub state-of-length : (s : State) → length (stateNumbers s) ≡ stateWidth
 unfolding stateNumbers keptNumbers
 state-of-length s = refl
 
--- A state by its eleven numbers.
+-- A state by its fifteen numbers.
 abbrev byNumbers : (ℕ → ℕ) → ℕ → State
 byNumbers number kept =
     record {
@@ -161,10 +161,11 @@ byNumbers number kept =
       deficit = record { 0 = number 8 };
       months = number 9;
       co2 = grams (number 10);
+      modern = grams (number 11) ∷ grams (number 12) ∷ grams (number 13) ∷ grams (number 14) ∷ [];
       kept = kept;
     }
 
--- Eleven equal numbers are one state.
+-- Fifteen equal numbers are one state.
 module _ (f g : ℕ → ℕ) (same : (c : ℕ) → c < keptWidth → f c ≡ g c) (kept : ℕ) where
   same-numbers : byNumbers f kept ≡ byNumbers g kept
   same-numbers = λ i. record {
@@ -181,29 +182,47 @@ module _ (f g : ℕ → ℕ) (same : (c : ℕ) → c < keptWidth → f c ≡ g c
     deficit = record { 0 = same 8 (lit< tt) i };
     months = same 9 (lit< tt) i;
     co2 = grams (same 10 (lit< tt) i);
+    modern =
+        grams (same 11 (lit< tt) i) ∷ grams (same 12 (lit< tt) i) ∷ grams (same 13 (lit< tt) i)
+        ∷ grams (same 14 (lit< tt) i) ∷ [];
     kept = kept;
   }
+
+-- Four pools from k past a place on, by their numbers.
+pools-by :
+    (numbers : List ℕ) (place k : ℕ)
+    → poolsFrom numbers (place + k)
+    ≡ grams (getD numbers (place + k) 0) ∷ grams (getD numbers (place + (k + 1)) 0)
+    ∷ grams (getD numbers (place + (k + 2)) 0) ∷ grams (getD numbers (place + (k + 3)) 0) ∷ []
+unfolding poolsFrom
+pools-by numbers place k = rw (add-assoc place k 1, add-assoc place k 2, add-assoc place k 3)
 
 -- What is read from a place on, by its numbers.
 read-by : (numbers : List ℕ) (place kept : ℕ) → stateFrom numbers place kept ≡ byNumbers (λ c. getD numbers (place + c) 0) kept
 unfolding stateFrom soilFrom
-read-by numbers place kept = rw (add-zero place)
+read-by numbers place kept = rw (add-zero place, pools-by numbers place 3, pools-by numbers place 11)
 
--- A state of four pools, by the numbers that are kept of it.
-kept-by : (s : State) (kept : ℕ) → length (s .soil .pools) ≡ 4 → byNumbers (λ c. getD (keptNumbers s) c 0) kept ≡ withKept kept s
+-- A state has four pools and the modern grams of four, as its type in the code says.
+pub record Four (s : State) : Type 0 where
+  pub pools : length (s .soil .pools) ≡ 4
+  pub modern : length (s .modern) ≡ 4
+
+-- Such a state, by the numbers that are kept of it.
+kept-by : (s : State) (kept : ℕ) → Four s → byNumbers (λ c. getD (keptNumbers s) c 0) kept ≡ withKept kept s
 unfolding keptNumbers
 kept-by s kept h =
-    ap
-    (λ (pools : List Grams).
+    ap₂
+    (λ (pools modern : List Grams).
     record {
       soil =
           record { clay = s .soil .clay; depth = s .soil .depth; kind = s .soil .kind; pools = pools; iom = s .soil .iom };
       deficit = s .deficit;
       months = s .months;
       co2 = s .co2;
+      modern = modern;
       kept = kept;
     })
-    (whole (grams 0) (s .soil .pools) 4 h)
+    (whole (grams 0) (s .soil .pools) 4 (h .pools)) (whole (grams 0) (s .modern) 4 (h .modern))
 
 -- It is read so from the part that begins there.
 pub part-read : (numbers : List ℕ) (place kept : ℕ) → stateFrom (take (length numbers - place) (drop place numbers)) 0 kept ≡ stateFrom numbers place kept
@@ -216,9 +235,9 @@ part-read numbers place kept =
     ∙ sym (read-by numbers place kept)
 
 module _ (memory : List ℕ) (place : ℕ) (s : State) where
-  -- A state of four pools that was put is read back, whatever is kept beside it, ..
+  -- A state that was put is read back, whatever is kept beside it, ..
   pub put-back :
-      (kept : ℕ) → length (s .soil .pools) ≡ 4 → place + keptWidth ≤ length memory
+      (kept : ℕ) → Four s → place + keptWidth ≤ length memory
       → stateFrom (sets memory place (keptNumbers s)) place kept ≡ withKept kept s
   put-back kept four room =
       read-by (sets memory place (keptNumbers s)) place kept
@@ -242,12 +261,12 @@ module _ (memory : List ℕ) (place : ℕ) (s : State) where
 
 -- Numbers read as the current state are that state's numbers.
 numbers-read : (numbers : List ℕ) → stateWidth ≤ length numbers → stateNumbers (stateOf numbers) ≡ take stateWidth numbers
-unfolding stateNumbers keptNumbers stateOf stateFrom soilFrom
+unfolding stateNumbers keptNumbers stateOf stateFrom soilFrom poolsFrom
 numbers-read numbers h = first-elements 0 numbers stateWidth h
 
--- A field's state, of four pools, and its memory are read back.
-pub field-state : (s : State) (memory : List ℕ) → length (s .soil .pools) ≡ 4 → stateOf (fieldNumbers s memory) ≡ s
-unfolding stateNumbers keptNumbers stateOf stateFrom soilFrom
+-- A field's state and its memory are read back.
+pub field-state : (s : State) (memory : List ℕ) → Four s → stateOf (fieldNumbers s memory) ≡ s
+unfolding stateNumbers keptNumbers stateOf stateFrom soilFrom poolsFrom
 field-state s memory h = kept-by s (s .kept) h
 
 pub field-memory : (s : State) (memory : List ℕ) → memoryOf (fieldNumbers s memory) ≡ memory
@@ -279,11 +298,11 @@ module _ (field : List ℕ) (all : length field ≡ fieldWidth) where
       (drop-of-length-le (memoryOf field) {i = length field - stateWidth} (omega (arith, memory-size)))
       ∙ ap (λ (l : List ℕ). take stateWidth field ++ l) (append-nil memory)
 
-  first-twelve : length (take stateWidth field) ≡ stateWidth
-  first-twelve = length-take-le stateWidth field (omega arith)
+  state-part : length (take stateWidth field) ≡ stateWidth
+  state-part = length-take-le stateWidth field (omega arith)
 
   pub back-length : (memory : List ℕ) → stateWidth ≤ length (returned field memory)
-  back-length memory = rw (back-whole memory) (omega (arith, first-twelve, length-append {A = ℕ} (take stateWidth field) memory))
+  back-length memory = rw (back-whole memory) (omega (arith, state-part, length-append {A = ℕ} (take stateWidth field) memory))
 
   -- Come back unchanged it leaves the field as it was, ..
   pub back-same : {memory : List ℕ} → memory ≡ lent field → returned field memory ≡ field
@@ -295,10 +314,10 @@ module _ (field : List ℕ) (all : length field ≡ fieldWidth) where
   field-moved memory s =
       ap (λ (l : List ℕ). sets l 0 (stateNumbers s)) (back-whole memory)
       ∙ sets-eq (stateNumbers s) (take stateWidth field ++ memory) 0
-      (omega (arith, state-of-length s, first-twelve, length-append {A = ℕ} (take stateWidth field) memory))
+      (omega (arith, state-of-length s, state-part, length-append {A = ℕ} (take stateWidth field) memory))
       ∙ ap (λ (l : List ℕ). stateNumbers s ++ l)
       (ap (λ (n : ℕ). drop n (take stateWidth field ++ memory)) (zero-add _ ∙ state-of-length s)
-      ∙ drop-at (take stateWidth field) memory stateWidth first-twelve)
+      ∙ drop-at (take stateWidth field) memory stateWidth state-part)
 
   -- A state put in a field leaves the kept ones, ..
   pub field-put : (s : State) → sets field 0 (stateNumbers s) ≡ fieldNumbers s (memoryOf field)

@@ -3,6 +3,7 @@
 use mathlib.Core.List.{List, [], _∷_, _++_}
 use Prim.Native.Nat.{ℕ, _+_, _*_}
 use lib.ListN.{getD, drop}
+use Rattle.number_units.specs.declared.Grams.{Grams}
 use Rattle.step_pools.specs.Pools.{grams, gramsAt}
 use Rattle.month_state.specs.declared.Soil.{Soil}
 use Rattle.month_state.specs.declared.State.{State}
@@ -13,7 +14,7 @@ abbrev pub soilWidth : ℕ
 soilWidth = 8
 
 abbrev pub keptWidth : ℕ
-keptWidth = 11
+keptWidth = 15
 
 abbrev pub stateWidth : ℕ
 stateWidth = keptWidth + 1
@@ -22,6 +23,15 @@ stateWidth = keptWidth + 1
 abbrev pub numberAt : List ℕ → ℕ → ℕ
 numberAt numbers place = getD numbers place 0
 
+-- Four pools from a place on: DPM, RPM, BIO, HUM.
+unfoldable pub poolsFrom : List ℕ → ℕ → List Grams
+poolsFrom numbers place =
+    grams (numberAt numbers place)
+    ∷ grams (numberAt numbers (place + 1))
+    ∷ grams (numberAt numbers (place + 2))
+    ∷ grams (numberAt numbers (place + 3))
+    ∷ []
+
 -- A soil from a place on: clay, depth, kind, DPM, RPM, BIO, HUM, IOM.
 unfoldable pub soilFrom : List ℕ → ℕ → Soil
 soilFrom numbers place =
@@ -29,12 +39,7 @@ soilFrom numbers place =
       clay = numberAt numbers place;
       depth = numberAt numbers (place + 1);
       kind = numberAt numbers (place + 2);
-      pools =
-          grams (numberAt numbers (place + 3))
-          ∷ grams (numberAt numbers (place + 4))
-          ∷ grams (numberAt numbers (place + 5))
-          ∷ grams (numberAt numbers (place + 6))
-          ∷ [];
+      pools = poolsFrom numbers (place + 3);
       iom = grams (numberAt numbers (place + 7));
     }
 
@@ -42,7 +47,8 @@ abbrev pub soilOf : List ℕ → Soil
 soilOf numbers = soilFrom numbers 0
 
 -- A state as it is kept, from a place on: the soil's numbers, the deficit D, months done, CO2 to
--- date. How many earlier ones are kept beside it is not among them.
+-- date, and the modern grams of DPM, RPM, BIO, HUM. How many earlier ones are kept beside it is not
+-- among them.
 unfoldable pub stateFrom : List ℕ → ℕ → ℕ → State
 stateFrom numbers place kept =
     record {
@@ -50,6 +56,7 @@ stateFrom numbers place kept =
       deficit = record { 0 = numberAt numbers (place + 8) };
       months = numberAt numbers (place + 9);
       co2 = grams (numberAt numbers (place + 10));
+      modern = poolsFrom numbers (place + 11);
       kept = kept;
     }
 
@@ -71,6 +78,10 @@ keptNumbers s =
     ∷ s .deficit .0
     ∷ s .months
     ∷ s .co2 .0
+    ∷ gramsAt (s .modern) 0
+    ∷ gramsAt (s .modern) 1
+    ∷ gramsAt (s .modern) 2
+    ∷ gramsAt (s .modern) 3
     ∷ []
 
 unfoldable pub stateNumbers : State → List ℕ

@@ -1,11 +1,11 @@
 // The layouts of soils and states as numbers in lent memory, read and written. The crate list_rows
 // has those of rows.
 ghost use mathlib.Core.Path.{_≡_};
-ghost use Prim.Native.Nat.{_≤_};
+ghost use Prim.Native.Nat.{_+_, _≤_};
 ghost use lib.ListN.{length};
 ghost use lib.Seq.{sets};
 ghost use Rattle.month_layouts.specs.Layouts.{soilWidth, keptWidth, stateWidth};
-ghost use Rattle.month_layouts.specs.Layouts.{soilFrom, stateFrom, stateOf};
+ghost use Rattle.month_layouts.specs.Layouts.{poolsFrom, soilFrom, stateFrom, stateOf};
 ghost use Rattle.month_layouts.specs.Layouts.{keptNumbers, stateNumbers};
 use month_state::Soil;
 use month_state::State;
@@ -17,7 +17,7 @@ use number_units::Parts;
 // memory.
 pub const SOIL_WIDTH: usize = 8;
 
-pub const KEPT_WIDTH: usize = 11;
+pub const KEPT_WIDTH: usize = 15;
 
 pub const STATE_WIDTH: usize = KEPT_WIDTH + 1;
 
@@ -25,20 +25,29 @@ pub const MEMORY_WIDTH: usize = KEPT_WIDTH * 24;
 
 pub const FIELD_WIDTH: usize = STATE_WIDTH + MEMORY_WIDTH;
 
+// Four pools from a place on.
+fn pools_from(numbers: &[u64], place: usize) -> [Grams; 4]
+    requires { ⌜ place + 4 ≤ length (now numbers) ⌝ }
+    ensures { λ r. ⌜ r ≡ poolsFrom (now (numbers .entry)) place ⌝ }
+{
+    let dpm = numbers[place];
+    let rpm = numbers[place + 1];
+    let bio = numbers[place + 2];
+    let hum = numbers[place + 3];
+    [Grams(dpm), Grams(rpm), Grams(bio), Grams(hum)]
+}
+
 // The soil that memory begins with.
 pub fn soil_of(numbers: &[u64]) -> Soil
     requires { ⌜ soilWidth ≤ length (now numbers) ⌝ }
     ensures { λ r. ⌜ r ≡ soilFrom (now (numbers .entry)) 0 ⌝ }
 {
-    let dpm = numbers[3];
-    let rpm = numbers[4];
-    let bio = numbers[5];
-    let hum = numbers[6];
+    let pools = pools_from(numbers, 3);
     Soil {
         clay: numbers[0],
         depth: numbers[1],
         kind: numbers[2],
-        pools: [Grams(dpm), Grams(rpm), Grams(bio), Grams(hum)],
+        pools,
         iom: Grams(numbers[7]),
     }
 }
@@ -49,11 +58,13 @@ pub fn kept_of(numbers: &[u64], kept: u64) -> State
     ensures { λ r. ⌜ r ≡ stateFrom (now (numbers .entry)) 0 kept ⌝ }
 {
     let soil = soil_of(numbers);
+    let modern = pools_from(numbers, 11);
     State {
         soil,
         deficit: Parts(numbers[8]),
         months: numbers[9],
         co2: Grams(numbers[10]),
+        modern,
         kept,
     }
 }
@@ -74,6 +85,7 @@ pub fn put_kept(numbers: &mut [u64], s: State)
 {
     let soil = s.soil;
     let pools = soil.pools;
+    let modern = s.modern;
     numbers[0] = soil.clay;
     numbers[1] = soil.depth;
     numbers[2] = soil.kind;
@@ -85,6 +97,10 @@ pub fn put_kept(numbers: &mut [u64], s: State)
     numbers[8] = s.deficit.0;
     numbers[9] = s.months;
     numbers[10] = s.co2.0;
+    numbers[11] = modern[0].0;
+    numbers[12] = modern[1].0;
+    numbers[13] = modern[2].0;
+    numbers[14] = modern[3].0;
 }
 
 // The numbers of the current state, written at the start of memory. Everything else stays.

@@ -22,7 +22,8 @@ use Rattle.month_state.specs.State.{carbonCeiling, monthLimit, keptLimit, newSt
 use Rattle.month_state.proofs.Tests.{either-true, either-false, false-either}
 use Rattle.month_refusals.specs.declared.Check.the-variants.{Pass, Refuse}
 use Rattle.month_refusals.specs.declared.Refusal.the-variants.{Turn}
-use Rattle.month_refusals.specs.Refusals.{clayOutside, depthOutside, kindOther, carbonAbove, boundsPassed, outOfTurn, limitReached}
+use Rattle.month_refusals.specs.Refusals.{clayOutside, depthOutside, kindOther, carbonAbove, carbonBoundsPassed, modernBound, modernAbove}
+use Rattle.month_refusals.specs.Refusals.{boundsPassed, outOfTurn, limitReached, activityOutside}
 use Rattle.month_refusals.specs.Refusals.{outside, temperatureOutside, waterOutside, sourceOutside, coverOutside, additionsOutside}
 use Rattle.month_refusals.specs.Refusals.{ceilingPassed}
 use Rattle.month_refusals.specs.Refusals.{soilAsked, boundsAsked, stateAsked, turnAsked, weatherAsked, landAsked, carbonAsked}
@@ -48,6 +49,7 @@ pub record Sound (s : State) : Type 0 where
   pub months : s .months ≤ monthLimit
   pub kept : s .kept ≤ keptLimit
   pub carbon : s .co2 .0 + total (s .soil .pools) ≤ 1000000000 + 200000000 * s .months
+  pub modern : total (s .modern) ≤ modernBound (s .months)
 
 -- A signed number is in a range.
 pub record Between (first last z : ℤ) : Type 0 where
@@ -61,13 +63,14 @@ pub record WeatherReady (w : Weather) : Type 0 where
   pub evaporation : Between (pos 0) (pos 20000) (w .evaporation)
   pub source : Between (pos 0) (pos 1) (w .source)
 
--- None of 15 and 16 applies.
+-- None of 15, 16 and 21 applies.
 pub record LandReady (l : Land) : Type 0 where
   pub cover : Between (pos 0) (pos 1) (l .cover)
   pub plant : Between (pos 0) (pos 100000000) (l .plant)
   pub manure : Between (pos 0) (pos 100000000) (l .manure)
+  pub activity : Between (pos 0) (pos 2000) (l .activity)
 
--- None of 12 to 17 and 19 applies.
+-- None of 12 to 17, 19 and 21 applies.
 pub record Ready (s : State) (e : Entries) : Type 0 where
   pub months : s .months < monthLimit
   pub weather : WeatherReady (e .weather)
@@ -134,11 +137,12 @@ unfolding stateAsked
 parts-state s soil bounds = parts-pass (soilAsked (s .soil)) (boundsAsked s) soil bounds
 
 pub sound-state : (s : State) → stateCheck s ≡ Pass → Sound s
-unfolding boundsAsked boundsPassed
+unfolding boundsAsked boundsPassed carbonBoundsPassed modernAbove
 sound-state s h =
     let parts = state-parts s h in
     let bounds = passes-one _ _ (parts .1) in
-    let first = either-false _ _ (bounds .0) in
+    let both = either-false (carbonBoundsPassed s) _ (bounds .0) in
+    let first = either-false _ _ (both .0) in
     let second = either-false _ _ (first .1) in
     let third = either-false _ _ (second .1) in
     record {
@@ -147,27 +151,39 @@ sound-state s h =
       months = ltb-false _ _ (second .0);
       kept = ltb-false _ _ (third .0);
       carbon = ltb-false _ _ (third .1);
+      modern = ltb-false _ _ (both .1);
     }
 
--- 10 alone, of a state whose soil is sound or not.
-pub in-bounds : (s : State) → s .deficit .0 ≤ maxDeficit (s .soil .clay) (s .soil .depth) → s .months ≤ monthLimit
-    → s .kept ≤ keptLimit → s .co2 .0 + total (s .soil .pools) ≤ 1000000000 + 200000000 * s .months → boundsPassed s ≡ false
-unfolding boundsPassed
-in-bounds s d m k c = false-either (le-ltb _ _ d) (false-either (le-ltb _ _ m) (false-either (le-ltb _ _ k) (le-ltb _ _ c)))
+-- 10 alone, of a sound state.
+in-bounds : (s : State) → Sound s → boundsPassed s ≡ false
+unfolding boundsPassed carbonBoundsPassed modernAbove
+in-bounds s h =
+    false-either
+    (false-either (le-ltb _ _ (h .deficit))
+    (false-either (le-ltb _ _ (h .months)) (false-either (le-ltb _ _ (h .kept)) (le-ltb _ _ (h .carbon)))))
+    (le-ltb _ _ (h .modern))
 
 pub state-passes : (s : State) → Sound s → stateCheck s ≡ Pass
 unfolding firstOf boundsAsked
 state-passes s h =
     parts-state s (soil-passes (s .soil) (h .soil))
-    (one-passes _ (in-bounds s (h .deficit) (h .months) (h .kept) (h .carbon)) refl)
+    (one-passes _ (in-bounds s h) refl)
 
--- The new state of an accepted soil passes 4 to 7 and 10: D, the CO2 to date and the kept ones are 0.
+-- The new state of an accepted soil passes 4 to 7 and 10: D, the CO2 to date and the kept ones are 0, and there are as many modern
+-- grams as grams.
 pub new-passes : (s : Soil) → soilCheck s ≡ Pass → stateCheck (newState s) ≡ Pass
 unfolding newState
 new-passes s h =
     let soil = sound-soil s h in
     state-passes (newState s)
-    (record { soil = soil; deficit = omega arith; months = omega arith; kept = omega arith; carbon = omega (arith, soil .pools) })
+    (record {
+      soil = soil;
+      deficit = omega arith;
+      months = omega arith;
+      kept = omega arith;
+      carbon = omega (arith, soil .pools);
+      modern = omega (arith, soil .pools);
+    })
 
 -- ---- signed numbers
 
@@ -193,7 +209,7 @@ pub natural-most : (k : ℕ) (z : ℤ) → Between (pos 0) (pos k) z → natAbs 
 natural-most k (pos n) h = leb→le n k (h .to .le)
 natural-most k (negsuc n) h = absurd (h .from .le)
 
--- ---- 12 to 17 and 19
+-- ---- 12 to 17, 19 and 21
 
 pub weather-ready : (w : Weather) → weatherCheck w ≡ Pass → WeatherReady w
 unfolding weatherAsked temperatureOutside waterOutside sourceOutside
@@ -217,18 +233,25 @@ weather-passes w h =
     (one-passes _ (not-outside _ _ _ (h .source)) refl))
 
 pub land-ready : (l : Land) → landCheck l ≡ Pass → LandReady l
-unfolding landAsked coverOutside additionsOutside
+unfolding landAsked coverOutside additionsOutside activityOutside
 land-ready l h =
     let cover = passes-one _ _ h in
     let additions = passes-one _ _ (cover .1) in
+    let activity = passes-one _ _ (additions .1) in
     let grams = either-false (outside (pos 0) (pos 100000000) (l .plant)) _ (additions .0) in
-    record { cover = inside _ _ _ (cover .0); plant = inside _ _ _ (grams .0); manure = inside _ _ _ (grams .1) }
+    record {
+      cover = inside _ _ _ (cover .0);
+      plant = inside _ _ _ (grams .0);
+      manure = inside _ _ _ (grams .1);
+      activity = inside _ _ _ (activity .0);
+    }
 
 pub land-passes : (l : Land) → LandReady l → landCheck l ≡ Pass
-unfolding firstOf landAsked coverOutside additionsOutside
+unfolding firstOf landAsked coverOutside additionsOutside activityOutside
 land-passes l h =
     one-passes _ (not-outside _ _ _ (h .cover))
-    (one-passes _ (false-either (not-outside _ _ _ (h .plant)) (not-outside _ _ _ (h .manure))) refl)
+    (one-passes _ (false-either (not-outside _ _ _ (h .plant)) (not-outside _ _ _ (h .manure)))
+    (one-passes _ (not-outside _ _ _ (h .activity)) refl))
 
 -- The parts of a month's entries that pass.
 pub record EntriesPass (s : State) (e : Entries) : Type 0 where

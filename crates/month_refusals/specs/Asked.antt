@@ -30,6 +30,8 @@ use Rattle.month_refusals.specs.declared.Refusal.the-variants.{
   TableForm,
   Source,
   NoneKept,
+  Activity,
+  NoCarbon,
 }
 
 -- ---- numbers
@@ -56,6 +58,8 @@ refusalNumber Ceiling = 17
 refusalNumber TableForm = 18
 refusalNumber Source = 19
 refusalNumber NoneKept = 20
+refusalNumber Activity = 21
+refusalNumber NoCarbon = 22
 
 -- The number of what a check finds, 0 where it finds nothing.
 abbrev pub checkNumber : Check → ℕ
@@ -84,12 +88,13 @@ firstOf [] = Pass
 firstOf (asked ∷ later) = given (asked .applies) (asked .refusal) (firstOf later)
 
 -- Document 01's list of refusals in checking order, with document 02's: 18 before a table line's 13
--- and 14, 19 "after 14" (2026-01), and 20 "before any other check" (2026-02). Each call asks its
--- part of it.
+-- and 14, 19 "after 14" (2026-01), 20 "before any other check" (2026-02), 21 "after 16", and 22,
+-- which a report asks last (2026-04). Each call asks its part of it.
 abbrev pub checkingOrder : List Refusal
 checkingOrder =
     NoneKept ∷ Length ∷ Form ∷ Rows ∷ Clay ∷ Depth ∷ Kind ∷ Carbon ∷ Room ∷ Years ∷ Bounds ∷ Turn
-    ∷ MonthLimit ∷ TableForm ∷ Temperature ∷ Water ∷ Source ∷ Cover ∷ Additions ∷ Ceiling ∷ []
+    ∷ MonthLimit ∷ TableForm ∷ Temperature ∷ Water ∷ Source ∷ Cover ∷ Additions ∷ Activity ∷ Ceiling
+    ∷ NoCarbon ∷ []
 
 -- What is asked is part of an order: its refusals stand in the order one after another, some left
 -- out.

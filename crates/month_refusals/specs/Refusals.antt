@@ -28,6 +28,7 @@ use Rattle.month_refusals.specs.declared.Refusal.the-variants.{
   Source,
   Cover,
   Additions,
+  Activity,
   Ceiling,
 }
 use Rattle.month_refusals.specs.Asked.{Asked, _if_, firstOf}
@@ -52,12 +53,24 @@ carbonAbove s = ltb carbonCeiling (total (s .pools)) || ltb carbonCeiling (s .io
 
 -- 10: a state has D outside 0 to M, more than 120,000 months, "a kept count above 24" (change
 -- 2026-02), or CO2 and active pools together above 1,000,000,000 + 200,000,000 × months.
-unfoldable pub boundsPassed : State → Bool
-boundsPassed s =
+unfoldable pub carbonBoundsPassed : State → Bool
+carbonBoundsPassed s =
     ltb (maxDeficit (s .soil .clay) (s .soil .depth)) (s .deficit .0)
     || (ltb monthLimit (s .months)
     || (ltb keptLimit (s .kept)
     || ltb (1000000000 + 200000000 * s .months) (s .co2 .0 + total (s .soil .pools))))
+
+-- The modern grams that active pools together may have after so many months.
+abbrev pub modernBound : ℕ → ℕ
+modernBound months = 1000000000 + 400000000 * months
+
+-- "10 also takes active modern grams together above" it (change 2026-04).
+unfoldable pub modernAbove : State → Bool
+modernAbove s = ltb (modernBound (s .months)) (total (s .modern))
+
+-- 10, whole.
+unfoldable pub boundsPassed : State → Bool
+boundsPassed s = carbonBoundsPassed s || modernAbove s
 
 -- 11: the month's number isn't months done plus 1.
 unfoldable pub outOfTurn : State → ℕ → Bool
@@ -93,6 +106,10 @@ unfoldable pub additionsOutside : Land → Bool
 additionsOutside l =
     outside (pos 0) (pos 100000000) (l .plant) || outside (pos 0) (pos 100000000) (l .manure)
 
+-- 21: "an activity outside 0 to 2,000".
+unfoldable pub activityOutside : Land → Bool
+activityOutside l = outside (pos 0) (pos 2000) (l .activity)
+
 -- 17: active pools before the month, plus plant and manure, exceed 1,000,000,000.
 unfoldable pub ceilingPassed : State → Land → Bool
 ceilingPassed s l =
@@ -123,20 +140,23 @@ weatherAsked w =
     (Temperature if temperatureOutside w) ∷ (Water if waterOutside w) ∷ (Source if sourceOutside w)
     ∷ []
 
--- 15 and 16: what the land is given.
+-- 15, 16 and 21: what the land is given.
 unfoldable pub landAsked : Land → List Asked
-landAsked l = (Cover if coverOutside l) ∷ (Additions if additionsOutside l) ∷ []
+landAsked l =
+    (Cover if coverOutside l) ∷ (Additions if additionsOutside l) ∷ (Activity if activityOutside l)
+    ∷ []
 
--- 15 to 17: what the land is given, and the carbon that it makes up with the pools.
+-- 15, 16, 21 and 17: what the land is given, and the carbon that it makes up with the pools.
 unfoldable pub carbonAsked : State → Land → List Asked
 carbonAsked s l = landAsked l ++ ((Ceiling if ceilingPassed s l) ∷ [])
 
--- 12 to 17, with 19 after 14: a month's entries, in a single month call and in a list.
+-- 12 to 17, with 19 after 14 and 21 after 16: a month's entries, in a single month call and in a
+-- list.
 unfoldable pub entriesAsked : State → Entries → List Asked
 entriesAsked s e =
     (MonthLimit if limitReached s) ∷ (weatherAsked (e .weather) ++ carbonAsked s (e .land))
 
--- 4 to 7, 10, 11, and 12 to 17 with 19 after 14: a single month call.
+-- 4 to 7, 10, 11, and 12 to 17 with 19 after 14 and 21 after 16: a single month call.
 unfoldable pub monthAsked : State → ℕ → Entries → List Asked
 monthAsked s number e = stateAsked s ++ (turnAsked s number ++ entriesAsked s e)
 

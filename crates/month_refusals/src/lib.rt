@@ -1,12 +1,14 @@
 // The papers' refusals: one enum for all calls, their numbers, what each call asks in the papers'
 // order, and the checks of a soil and of a state's bounds. No sum wraps, whatever the numbers.
 ghost use mathlib.Core.Path.{_≡_};
+ghost use Prim.Native.Nat.{_≤_, _^_};
 ghost use lib.Dec.{ltb};
 ghost use Rattle.step_pools.specs.Pools.{total};
-ghost use Rattle.month_state.specs.State.{carbonCeiling};
+ghost use Rattle.month_state.specs.State.{monthLimit};
 ghost use Rattle.month_refusals.specs.declared.Check.the-variants.{Pass};
 ghost use Rattle.month_refusals.specs.Asked.{refusalNumber, Finds};
 ghost use Rattle.month_refusals.specs.Refusals.{depthOutside, kindOther, carbonAbove};
+ghost use Rattle.month_refusals.specs.Refusals.{carbonBoundsPassed, modernAbove};
 ghost use Rattle.month_refusals.specs.Refusals.{boundsPassed};
 ghost use Rattle.month_refusals.specs.Refusals.{soilAsked, boundsAsked, soilCheck};
 use month_state::Soil;
@@ -37,6 +39,8 @@ pub enum Refusal {
     TableForm,
     Source,
     NoneKept,
+    Activity,
+    NoCarbon,
 }
 
 // What a check finds: nothing, or the first refusal that applies.
@@ -76,31 +80,34 @@ pub fn refusal_number(r: Refusal) -> u64
         Refusal::TableForm => 18,
         Refusal::Source => 19,
         Refusal::NoneKept => 20,
+        Refusal::Activity => 21,
+        Refusal::NoCarbon => 22,
     }
 }
 
-// Whether the active pools together exceed the ceiling. Each is tested before they are added, so
-// that no sum wraps.
-fn over_ceiling(pools: [Grams; 4]) -> bool
-    ensures { λ r. ⌜ r ≡ ltb carbonCeiling (total pools) ⌝ }
+// Whether four pools together are above a bound. Each is tested before they are added, so that no
+// sum wraps.
+fn total_above(bound: u64, pools: [Grams; 4]) -> bool
+    requires { ⌜ bound ≤ 2 ^ 60 ⌝ }
+    ensures { λ r. ⌜ r ≡ ltb bound (total pools) ⌝ }
 {
     let dpm = pools[0].0;
     let rpm = pools[1].0;
     let bio = pools[2].0;
     let hum = pools[3].0;
-    if State::CARBON_CEILING < dpm {
+    if bound < dpm {
         return true;
     }
-    if State::CARBON_CEILING < rpm {
+    if bound < rpm {
         return true;
     }
-    if State::CARBON_CEILING < bio {
+    if bound < bio {
         return true;
     }
-    if State::CARBON_CEILING < hum {
+    if bound < hum {
         return true;
     }
-    State::CARBON_CEILING < dpm + rpm + bio + hum
+    bound < dpm + rpm + bio + hum
 }
 
 // 5: depth is outside 1 to 100.
@@ -131,7 +138,7 @@ fn carbon_above(s: Soil) -> bool
 {
     let pools = s.pools;
     let iom = s.iom;
-    if over_ceiling(pools) {
+    if total_above(State::CARBON_CEILING, pools) {
         return true;
     }
     State::CARBON_CEILING < iom.0
@@ -157,11 +164,11 @@ pub fn check_soil(s: Soil) -> Check
     Check::Pass
 }
 
-// 10: D is outside 0 to M, the months or the kept ones are too many, or CO2 and active pools
-// together are above their bound. The CO2 is tested before the pools are added to it.
-fn bounds_passed(s: State) -> bool
+// 10 but for modern grams: D is outside 0 to M, the months or the kept ones are too many, or CO2 and
+// active pools together are above their bound. The CO2 is tested before the pools are added to it.
+fn carbon_bounds_passed(s: State) -> bool
     requires { ⌜ soilCheck (s .soil) ≡ Pass ⌝ }
-    ensures { λ r. ⌜ r ≡ boundsPassed s ⌝ }
+    ensures { λ r. ⌜ r ≡ carbonBoundsPassed s ⌝ }
 {
     let soil = s.soil;
     let deficit = s.deficit;
@@ -185,6 +192,26 @@ fn bounds_passed(s: State) -> bool
     let pools = soil.pools;
     let active = total(pools);
     bound < co2.0 + active.0
+}
+
+// 10 for modern grams: those of the active pools together are above their bound.
+fn modern_above(s: State) -> bool
+    requires { ⌜ s .months ≤ monthLimit ⌝ }
+    ensures { λ r. ⌜ r ≡ modernAbove s ⌝ }
+{
+    let modern = s.modern;
+    total_above(1_000_000_000 + 400_000_000 * s.months, modern)
+}
+
+// 10, whole.
+fn bounds_passed(s: State) -> bool
+    requires { ⌜ soilCheck (s .soil) ≡ Pass ⌝ }
+    ensures { λ r. ⌜ r ≡ boundsPassed s ⌝ }
+{
+    if carbon_bounds_passed(s) {
+        return true;
+    }
+    modern_above(s)
 }
 
 // 10, of a state whose soil passes 4 to 7.

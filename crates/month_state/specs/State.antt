@@ -1,5 +1,6 @@
--- States of document 01: their limits, a new one, and the total of a state's five pools; and how
--- many earlier states are kept beside one, change 2026-02 of document 02.
+-- States of document 01: their limits, a new one, and the total of a state's five pools; how many
+-- earlier states are kept beside one, change 2026-02 of document 02; and their modern grams, change
+-- 2026-04.
 use mathlib.Core.Bool.{cond}
 use Prim.Native.Nat.{ℕ, _+_}
 use lib.Dec.{ltb}
@@ -20,9 +21,17 @@ abbrev pub keptLimit : ℕ
 keptLimit = 24
 
 -- A new state has the soil, and 0 for the deficit, the months done, the CO2 to date and the kept.
+-- "Starting pools have 1000": as many modern grams as grams.
 unfoldable pub newState : Soil → State
 newState s =
-    record { soil = s; deficit = record { 0 = 0 }; months = 0; co2 = record { 0 = 0 }; kept = 0 }
+    record {
+      soil = s;
+      deficit = record { 0 = 0 };
+      months = 0;
+      co2 = record { 0 = 0 };
+      modern = s .pools;
+      kept = 0;
+    }
 
 -- The same state with so many kept, and "kept months aside": with none.
 abbrev pub withKept : ℕ → State → State
@@ -32,6 +41,7 @@ withKept kept s =
       deficit = s .deficit;
       months = s .months;
       co2 = s .co2;
+      modern = s .modern;
       kept = kept;
     }
 

@@ -18,13 +18,15 @@ pub struct Soil {
     pub iom: Grams,
 }
 
-// A state: the soil, the deficit D, the months done and the CO2 to date; and how many of the states
-// before its latest months are kept (change 2026-02 of document 02). These lie in lent memory.
+// A state: the soil, the deficit D, the months done and the CO2 to date; the modern grams of its
+// active pools (change 2026-04 of document 02; IOM's follow from its carbon); and how many of the
+// states before its latest months are kept (change 2026-02). These lie in lent memory.
 pub struct State {
     pub soil: Soil,
     pub deficit: Parts,
     pub months: u64,
     pub co2: Grams,
+    pub modern: [Grams; 4],
     pub kept: u64,
 }
 
@@ -38,11 +40,13 @@ pub struct Weather {
     pub source: i64,
 }
 
-// What the land is given in a month: its cover, plant carbon and manure.
+// What the land is given in a month: its cover, plant carbon and manure, and the activity of both
+// in thousandths.
 pub struct Land {
     pub cover: i64,
     pub plant: i64,
     pub manure: i64,
+    pub activity: i64,
 }
 
 // What a month is given.
@@ -70,15 +74,18 @@ impl State {
     // The most states that are kept beside the current one.
     pub const KEPT_LIMIT: u64 = 24;
 
-    // A new state: 0 for the deficit, the months done and the CO2 to date, and none kept.
+    // A new state: 0 for the deficit, the months done and the CO2 to date, as many modern grams as
+    // grams, and none kept.
     pub fn new(soil: Soil) -> State
         ensures { λ r. ⌜ r ≡ newState soil ⌝ }
     {
+        let modern = soil.pools;
         State {
             soil,
             deficit: Parts(0),
             months: 0,
             co2: Grams(0),
+            modern,
             kept: 0,
         }
     }

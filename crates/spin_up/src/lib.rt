@@ -73,11 +73,13 @@ fn none_kept(s: State) -> State
     let soil = s.soil;
     let deficit = s.deficit;
     let co2 = s.co2;
+    let modern = s.modern;
     State {
         soil,
         deficit,
         months: s.months,
         co2,
+        modern,
         kept: 0,
     }
 }

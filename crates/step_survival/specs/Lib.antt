@@ -1,3 +1,4 @@
 pub mod Series
 pub mod Survival
 pub mod Served
+pub mod Ages

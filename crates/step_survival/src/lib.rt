@@ -5,6 +5,7 @@ ghost use Rattle.step_survival.specs.Series.{term, series, termCount};
 ghost use Rattle.step_survival.specs.Survival.{rateNumber, parts, survivalAt};
 ghost use Rattle.step_survival.specs.Survival.{survivalNumber, survivalTerms, IsSurvival};
 ghost use Rattle.step_survival.specs.Served.{EveryW};
+ghost use Rattle.step_survival.specs.Ages.{ageLimit, ageSurvival, Ages};
 use number_units::TenThousandths;
 use step_powers::power;
 
@@ -125,6 +126,15 @@ pub fn survival(n: u64, k: u64) -> u64
     ensures { λ s. ⌜ (s ≡ survivalNumber n k) × IsSurvival n k s ⌝ }
 {
     survival_at(parts(n, k))
+}
+
+// The survival number of an age in years, w = years / 8035 (change 2026-04). Years × 2^44 fits 64
+// bits.
+pub fn age_survival(years: u64) -> u64
+    requires { ⌜ years ≤ ageLimit ⌝ }
+    ensures { λ s. ⌜ (s ≡ ageSurvival years) × Ages ⌝ }
+{
+    survival_at(years * 17_592_186_044_416 / 8035 / 128)
 }
 
 // A survival number, and how many terms were summed for it.

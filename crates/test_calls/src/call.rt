@@ -5,8 +5,10 @@ ghost use mathlib.Core.Path.{_≡_};
 ghost use Prim.Native.Nat.{_≤_, _<_};
 ghost use lib.ListN.{length};
 ghost use Rattle.month_layouts.specs.Layouts.{keptWidth, stateWidth};
+use library_calls::rothc_age_survival;
 use library_calls::rothc_list;
 use library_calls::rothc_month;
+use library_calls::rothc_radiocarbon;
 use library_calls::rothc_spin_up;
 use library_calls::rothc_start;
 use library_calls::rothc_survival;
@@ -204,6 +206,33 @@ fn survival_terms(text: &[u8], at: usize) -> usize {
     next
 }
 
+// R: a radiocarbon report.
+fn radiocarbon(text: &[u8], at: usize) -> usize {
+    let mut state = [7u64; FIELD_WIDTH];
+    let after = read_state(text, at, &mut state);
+    let pool = read_number(text, after);
+    let next = line_end(text, pool.next);
+    if next == 0 {
+        return 0;
+    }
+    let mut report = [7i64; 3];
+    let number = rothc_radiocarbon(&state, pool.value, &mut report);
+    signed_line(&[number], &report);
+    next
+}
+
+// A: the survival number of an age.
+fn age_survival(text: &[u8], at: usize) -> usize {
+    let mut numbers = [0u64; 2];
+    let next = line_end(text, read_numbers(text, at, &mut numbers));
+    if next == 0 {
+        return 0;
+    }
+    let s = rothc_age_survival(numbers[0]);
+    line(&[close(s, numbers[1])], &[], &[]);
+    next
+}
+
 // T: a table.
 fn table(bytes: &[u8], weather: &mut [i64]) {
     let mut rows = 7u64;
@@ -255,6 +284,8 @@ pub fn call(text: &[u8], at: usize) -> usize
         76 | 83 => series(text, at + 1, letter),
         68 => survival(text, at + 1),
         75 => survival_terms(text, at + 1),
+        82 => radiocarbon(text, at + 1),
+        65 => age_survival(text, at + 1),
         84 => framed_table(text, at + 1),
         _ => 0,
     }

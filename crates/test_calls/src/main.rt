@@ -31,6 +31,6 @@ fn read_calls(input: &mut [u8]) {
 }
 
 fn main() {
-    let mut input = [0u8; 900_001];
+    let mut input = [0u8; 1_200_001];
     read_calls(&mut input);
 }

@@ -1,5 +1,5 @@
 // A history of a field, from the new state of a soil: months, lists, spin-ups and takings-back,
-// each an act of nine numbers. What each returns is written, and then the whole field. The calls
+// each an act of ten numbers. What each returns is written, and then the whole field. The calls
 // are the bodies of the functions for C, which have one line each.
 ghost use mathlib.Core.Path.{_≡_};
 ghost use Prim.Native.Nat.{_≤_};
@@ -95,7 +95,7 @@ fn spin_up(field: &mut [u64], years: u64, weather: &[i64], land: &[i64]) -> u64 
 
 // An act. Its number is never below 0, so that its distance from 0 is the number itself.
 fn act(field: &mut [u64], numbers: &[i64]) -> u64
-    requires { ⌜ length (now numbers) ≡ 9 ⌝ }
+    requires { ⌜ length (now numbers) ≡ 10 ⌝ }
 {
     let kind = numbers[0];
     let number = distance(numbers[1]);

@@ -1,15 +1,17 @@
-//! Asserts the known figures of document 01, the Rothamsted deficit table of 001 and January
-//! 1852 byte by byte; then demand 3 on long lists, also with months taken back. Stops at the first
-//! that is wrong.
+//! Asserts the known figures of document 01, the Rothamsted deficit table of 001, January 1852 byte
+//! by byte, and 001's radiocarbon; then demand 3 on long lists, also with months taken back. Stops
+//! at the first that is wrong.
 
 use reference::book;
 use reference::exponential::{
-    allowed, allowed_range, clay_factor, survival_floor, temperature_factor, within, BILLION,
+    age_at_most, age_floor, age_nearest, allowed, allowed_range, clay_factor, nearest_of,
+    survival_floor, temperature_factor, within, BILLION, MEAN_LIFE, OLDEST,
 };
-use reference::fixed::book_fixed;
+use reference::fixed::{book_fixed, month_fixed, report_fixed};
 use reference::model::{
-    factors, list, moisture_factor, month, split_manure, split_plant, Entries, Nearest, Soil,
-    State, Survival, EVAPOTRANSPIRATION, OPEN_PAN, RATES,
+    dated, factors, list, moisture_factor, month, month_left, report, split_manure, split_plant,
+    Asked, Dated, Entries, Nearest, Soil, State, Survival, EVAPOTRANSPIRATION, FRESH, OPEN_PAN,
+    RATES,
 };
 use reference::recurrence::{
     carbon_closes, distance_every_q, distance_interval, q_highest, q_lowest, run_calls, Decision,
@@ -23,6 +25,10 @@ fn main() {
     january_1852();
     ceiling();
     survival_numbers();
+    ages();
+    radiocarbon_of_001();
+    equilibrium_of_001();
+    reports();
     demand_three();
     months_taken_back();
     println!("all figures hold");
@@ -65,6 +71,7 @@ fn known_figures() {
         cover: 0,
         plant: 0,
         manure: 0,
+        activity: FRESH,
     };
     assert_eq!(factors(&soil, 0, &january).n, 356_100_000);
     println!("known figures: A, R, B, plant, manure");
@@ -90,7 +97,7 @@ fn rothamsted_deficits() {
     let mut land = Vec::new();
     for (rain, evaporation, _) in table {
         weather.extend([93, rain * 10, evaporation * 10, OPEN_PAN]);
-        land.extend([1, 0, 0]);
+        land.extend([1, 0, 0, FRESH]);
     }
     let mut output = [0; 84];
     let (_, answer) = list(
@@ -114,7 +121,8 @@ fn rothamsted_deficits() {
 }
 
 fn january_1852() {
-    let book = b"SOIL 1\n234 23 1 153300 4485200 667100 25857600 2700000\nWEATHER 1\n34 740 80\nLAND 1\n0 0 0\n";
+    let book = b"SOIL 1\n234 23 1 153300 4485200 667100 25857600 2700000\nWEATHER 1\n34 740 80\n\
+        LAND 1\n0 0 0\n";
     let wanted =
         b"POOLS 1\n1 113937 4445447 665104 25855106 2700000 83606 0\nTOTAL 33779594 83606\n";
     let (answer, fixed) = book_fixed(book);
@@ -154,6 +162,7 @@ fn ceiling() {
         cover: 0,
         plant: 0,
         manure: 0,
+        activity: FRESH,
     };
     assert!(month(&full, 1, &entries, &mut Nearest).1.is_ok());
     let one = Entries {
@@ -188,6 +197,187 @@ fn survival_numbers() {
         }
     }
     println!("survival: 500,000 numbers tested");
+}
+
+/// Survival numbers of all ages, and the month's 999,989,629, against the paper's sums.
+fn ages() {
+    assert_eq!((age_floor(0), age_nearest(0)), (BILLION, BILLION));
+    // e^(-1) is 0.36787944117.
+    assert_eq!(age_nearest(MEAN_LIFE), 367_879_441);
+    for years in 1..=OLDEST {
+        assert!(age_floor(years) < age_floor(years - 1), "age {years}");
+    }
+    // The half life is 5,569.4 years; 001's conventional one, 5,568, leaves 0.50009.
+    assert!(!age_at_most(5_569, 1, 2) && age_at_most(5_570, 1, 2));
+    assert_eq!(age_nearest(5_568) / 10_000, 50_008);
+    // The oldest age leaves 0.00057145.
+    assert_eq!(age_nearest(OLDEST), 571_452);
+    // A month is a twelfth of a year, to the nearest billionth; twelve of them make a year.
+    let month = nearest_of((1, 12 * MEAN_LIFE as u128));
+    assert_eq!((month, month_left(BILLION)), (999_989_629, 999_989_629));
+    let year = (0..12).fold(BILLION, |grams, _| month_left(grams));
+    assert!(year.abs_diff(age_nearest(1)) <= 12, "{year}");
+    println!("survival numbers of 60,001 ages, half lives, and 999,989,629 for a month");
+}
+
+/// Delta in hundredths, to the nearest, of an age in hundredths of a year: 001's formula.
+fn delta_of_age(hundredths: u64) -> i64 {
+    let s = nearest_of((hundredths as u128, 100 * MEAN_LIFE as u128)) as i64;
+    (s - BILLION as i64 - 5_000) / 10_000
+}
+
+fn delta_of(state: &State, asked: Asked) -> i64 {
+    report(state, 0, asked, &mut Nearest).expect("carbon").delta as i64
+}
+
+/// 001's table for 31 December 1851 and 31 January 1852. Its deltas are up to a hundredth off its
+/// own formula.
+fn radiocarbon_of_001() {
+    let december = [(10, -1), (670, -83), (2_169, -269), (11_688, -1_444)];
+    let january = [(19, -2), (678, -84), (2_178, -270), (11_691, -1_445)];
+    let more = [(5_000_000, -99_802), (76_437, -9_075)];
+    for (age, delta) in december.iter().chain(&january).chain(&more) {
+        assert!((delta_of_age(*age) - delta).abs() <= 1, "age {age}");
+    }
+    assert_eq!(delta_of_age(5_000_000), -99_802);
+    // 001 has IOM's delta at -998.0, its age at 50,000 years. 2 thousandths are 49,934.4 years.
+    let new = State::new(rothamsted());
+    let inert = report(&new, 0, Asked::Inert, &mut Nearest).expect("IOM");
+    assert_eq!((inert.delta, inert.dated), (-99_800, Dated::Age(49_935)));
+    assert!(!age_at_most(49_934, 2, 1_000) && age_at_most(49_935, 2, 1_000));
+    // Fresh pools: 100 % modern, delta 0, age 0.
+    for pool in 0..4 {
+        let report = report(&new, 0, Asked::Active(pool), &mut Nearest).expect("carbon");
+        assert_eq!((report.delta, report.dated), (0, Dated::Age(0)));
+    }
+    // The pools of 31 December with 001's deltas, thirtyfold so that grams don't show. All five by
+    // activity come to 001's total; by ages they would be over 4,000 years.
+    let mut state = new.clone();
+    state.soil.pools = state.soil.pools.map(|grams| 30 * grams);
+    state.soil.inert *= 30;
+    for pool in 0..4 {
+        let part = (100_000 + december[pool].1) as u64;
+        state.modern[pool] = (state.soil.pools[pool] * part).div_ceil(100_000);
+        assert_eq!(delta_of(&state, Asked::Active(pool)), december[pool].1);
+    }
+    assert!((delta_of(&state, Asked::All) + 9_075).abs() <= 2);
+    let all = report(&state, 0, Asked::All, &mut Nearest).expect("carbon");
+    assert!(matches!(all.dated, Dated::Age(764..=766)), "{all:?}");
+    // January, without additions.
+    let entries = Entries {
+        temperature: 34,
+        rain: 740,
+        evaporation: 80,
+        source: OPEN_PAN,
+        cover: 0,
+        plant: 0,
+        manure: 0,
+        activity: FRESH,
+    };
+    let (after, row) = month(&state, 1, &entries, &mut Nearest);
+    assert!(row.is_ok());
+    for (pool, (_, delta)) in january.into_iter().enumerate() {
+        let own = delta_of(&after, Asked::Active(pool));
+        assert!((own - delta).abs() <= 1, "pool {pool}: {own} and {delta}");
+    }
+    // January 1852 from fresh pools, the same for every allowed S.
+    let (after, _) = month(&new, 1, &entries, &mut Nearest);
+    let modern = [113_935, 4_445_401, 665_097, 25_854_836];
+    assert!(after.modern == modern && month_fixed(&new, &entries));
+    println!("001's radiocarbon of December 1851 and January 1852, IOM and all five");
+}
+
+/// 001's run to equilibrium: 10,000 years of Rothamsted's weather with 0.212 t a month from January
+/// to July and in December. (001 prints rain and evaporation, and the temperatures in a figure.)
+fn equilibrium_of_001() {
+    let temperatures = [34, 36, 51, 73, 110, 139, 160, 160, 135, 102, 61, 46];
+    let rain = [740, 590, 620, 510, 520, 570, 340, 550, 580, 560, 750, 710];
+    let evaporation = [80, 100, 270, 490, 830, 990, 1030, 910, 690, 340, 160, 80];
+    let mut state = State::new(Soil {
+        pools: [0; 4],
+        ..rothamsted()
+    });
+    for number in 1..=120_000 {
+        let j = (number as usize - 1) % 12;
+        let growing = i64::from(!(7..=10).contains(&j));
+        let entries = Entries {
+            temperature: temperatures[j],
+            rain: rain[j],
+            evaporation: evaporation[j],
+            source: OPEN_PAN,
+            cover: growing,
+            plant: growing * 212_000,
+            manure: 0,
+            activity: FRESH,
+        };
+        let (next, row) = month(&state, number, &entries, &mut Nearest);
+        row.expect("nothing to refuse");
+        state = next;
+    }
+    // 001's grams, delta in hundredths, and age in whole years: 0.10, 6.70, 21.69 and 116.88 reach
+    // 1, 7, 22 and 117. Over 10,000 years roundings make up to 6 hundredths, 0.4 years.
+    let close = |asked: Asked, delta: i128, years: u64| {
+        let own = report(&state, 0, asked, &mut Nearest).expect("carbon");
+        assert!((own.delta - delta).abs() <= 6, "{asked:?}: {own:?}");
+        let Dated::Age(age) = own.dated else {
+            panic!("{asked:?}: {own:?}")
+        };
+        assert!((years..=years + 1).contains(&age), "{asked:?}: {own:?}");
+    };
+    let wanted = [
+        (153_300, -1, 1),
+        (4_485_200, -83, 7),
+        (667_100, -269, 22),
+        (25_857_600, -1_444, 117),
+    ];
+    for (pool, (grams, delta, years)) in wanted.into_iter().enumerate() {
+        assert!(state.soil.pools[pool].abs_diff(grams) <= 300, "pool {pool}");
+        close(Asked::Active(pool), delta, years);
+    }
+    close(Asked::All, -9_075, 765);
+    println!("001's equilibrium: grams and ages after 10,000 years");
+}
+
+/// 20,000 reports: the age found year by year against e^(-y/8035) itself, by the paper's sums.
+fn reports() {
+    let mut draw = Draw::new(2604);
+    let mut compared = 0;
+    for _ in 0..20_000 {
+        let size = draw.below(30);
+        let carbon = 1 + (draw.below(1_000_000_000) >> size);
+        let modern = match draw.below(4) {
+            0 => carbon / (1 + draw.below(2_000)),
+            _ => draw.below(carbon + 1),
+        };
+        let mut state = State::new(rothamsted());
+        (state.soil.pools[3], state.modern[3]) = (carbon, modern);
+        state.soil.pools[1] = 0;
+        state.months = 10;
+        let (answer, fixed) = report_fixed(&state, 0, Asked::Active(3));
+        if !fixed {
+            continue;
+        }
+        let Ok(report) = answer else { continue };
+        compared += 1;
+        match report.dated {
+            Dated::Newer => panic!("not more than carbon"),
+            Dated::Older => assert!(!age_at_most(OLDEST, modern, carbon)),
+            Dated::Age(years) => {
+                assert!(age_at_most(years, modern, carbon));
+                assert!(years == 0 || !age_at_most(years - 1, modern, carbon));
+            }
+        }
+        assert_eq!(
+            report.delta,
+            (modern as i128 * 100_000).div_euclid(carbon as i128) - 100_000
+        );
+        assert_eq!(
+            dated(carbon.into(), modern.into(), &mut Nearest),
+            report.dated
+        );
+    }
+    assert!(compared > 19_000);
+    println!("reports: {compared} ages against the paper's sums");
 }
 
 /// Demand 3 on lists of 120,000 accepted months with refused calls among them.
@@ -260,6 +450,7 @@ fn drawn_entries(draw: &mut Draw) -> Entries {
         cover: draw.between(0, 1),
         plant: draw.between(0, 1_000_000),
         manure: draw.between(0, 300_000),
+        activity: draw.between(0, 2_000),
     }
 }
 
@@ -293,7 +484,7 @@ fn months_taken_back() {
                 }
                 2 => {
                     let sky = [entries.temperature, entries.rain, 400, entries.source];
-                    let land = [entries.cover, 1_000, 500].repeat(1 + draw.below(40) as usize);
+                    let land = [entries.cover, 1_000, 500, 800].repeat(1 + draw.below(40) as usize);
                     list.list(&sky, &land, survival).expect("nothing to refuse");
                 }
                 turn @ 3..=8 => {

@@ -42,6 +42,14 @@ extern "C" {
         result_len: usize,
     ) -> u64;
     fn rothc_take_back(state: *mut u64, state_len: usize) -> u64;
+    fn rothc_radiocarbon(
+        state: *const u64,
+        state_len: usize,
+        pool: u64,
+        report: *mut i64,
+        report_len: usize,
+    ) -> u64;
+    fn rothc_age_survival(years: u64) -> u64;
     fn rothc_book(
         book: *const u8,
         book_len: usize,
@@ -132,6 +140,18 @@ impl Program for Library {
         unsafe { rothc_take_back(state.as_mut_ptr(), state.len()) }
     }
 
+    fn radiocarbon(&mut self, state: &[u64], pool: u64, report: &mut [i64]) -> u64 {
+        unsafe {
+            rothc_radiocarbon(
+                state.as_ptr(),
+                state.len(),
+                pool,
+                report.as_mut_ptr(),
+                report.len(),
+            )
+        }
+    }
+
     fn book(&mut self, book: &[u8], out: &mut [u8], length: &mut u64) -> u64 {
         unsafe {
             rothc_book(
@@ -163,6 +183,10 @@ impl Program for Library {
 
     fn survival_terms(&mut self, n: u64, pool: u64, terms: &mut u64) -> u64 {
         unsafe { rothc_survival_terms(n, pool, terms) }
+    }
+
+    fn age_survival(&mut self, years: u64) -> u64 {
+        unsafe { rothc_age_survival(years) }
     }
 }
 
@@ -218,6 +242,8 @@ fn main() -> ExitCode {
         histories: counts.histories * times,
         takings_back: counts.takings_back * times,
         terms: counts.terms * times,
+        reports: counts.reports * times,
+        beside: counts.beside * times,
         ..counts
     };
     let start = Instant::now();

@@ -3,6 +3,7 @@
 use mathlib.Core.Path.{_≡_, sym, _∙_, ap}
 use Prim.Native.Nat.{ℕ, _<_, _^_}
 use borrow.Author.Needs.{needs}
+use lib.IntN.{pos}
 use mir.Syntax.{w64}
 use mir.Val.{toZ}
 use mir.Facts.{toZ-pos}
@@ -17,7 +18,8 @@ use Rattle.book_rows.proofs.land_row.Tie as tie
 
 -- The numbers go into the row as bits, which are read back.
 abbrev of-bits : ℕ → ℕ → ℕ → Land
-of-bits cover plant manure = record { cover = toZ w64 cover; plant = toZ w64 plant; manure = toZ w64 manure }
+of-bits cover plant manure =
+    record { cover = toZ w64 cover; plant = toZ w64 plant; manure = toZ w64 manure; activity = pos 1000 }
 
 row-read :
     (cover plant manure : ℕ) → (cover < 2 ^ 63) × (plant < 2 ^ 63) × (manure < 2 ^ 63)
@@ -27,6 +29,7 @@ row-read cover plant manure fits =
       cover = toZ-pos w64 (fits .0) i;
       plant = toZ-pos w64 (fits .1) i;
       manure = toZ-pos w64 (fits .2) i;
+      activity = pos 1000;
     }
 
 -- the line, as it was read

@@ -1,4 +1,4 @@
--- `list_rows::land_from` meets its contract: three reads within the memory, each number read back from its bits.
+-- `list_rows::land_from` meets its contract: four reads within the memory, each number read back from its bits.
 -- Assumes nothing.
 use native.Mathlib.Omega.{arith}
 use Rattle.list_rows.specs.Rows.{landFrom}
@@ -30,6 +30,15 @@ mul-t11 c = omega arith
 shared-slice-copy-out-t13 : tie.Need-shared-slice-copy-out-t13
 shared-slice-copy-out-t13 c = omega arith
 
+add-t14 : tie.Need-add-t14
+add-t14 c = omega arith
+
+mul-t15 : tie.Need-mul-t15
+mul-t15 c = omega arith
+
+shared-slice-copy-out-t17 : tie.Need-shared-slice-copy-out-t17
+shared-slice-copy-out-t17 c = omega arith
+
 returns : tie.Need-returns
 unfolding landFrom
 returns c = search needs
@@ -46,4 +55,7 @@ land-from-spec =
     add-t10
     mul-t11
     shared-slice-copy-out-t13
+    add-t14
+    mul-t15
+    shared-slice-copy-out-t17
     returns)

@@ -1,4 +1,4 @@
--- `list_rows::put_land` meets its contract: three stores, one after another, within the memory.
+-- `list_rows::put_land` meets its contract: four stores, one after another, within the memory.
 -- Assumes nothing.
 use mathlib.Core.Path.{_∙_, ap}
 use mathlib.Core.List.{List, [], _∷_}
@@ -40,14 +40,23 @@ mul-manure c = omega arith
 slice-set-from-manure : tie.Need-slice-set-from-manure
 slice-set-from-manure c = simp length-set (omega arith)
 
+add-activity : tie.Need-add-activity
+add-activity c = omega arith
+
+mul-activity : tie.Need-mul-activity
+mul-activity c = omega arith
+
+slice-set-from-activity : tie.Need-slice-set-from-activity
+slice-set-from-activity c = simp length-set (omega arith)
+
 same-length : tie.Need-same-length
 same-length c = search needs
 
 returns : tie.Need-returns
 unfolding landWritten landNumbers
 returns c =
-    let start = c .before .before .before in
-    let told = c .struct-told3 .given in
+    let start = c .before .before .before .before in
+    let told = c .struct-told4 .given in
     let l = start .args .l in
     let numbers = start .args .numbers .now in
     let place = landWidth * start .args .i in
@@ -56,6 +65,7 @@ returns c =
     (λ k. read (l .cover) (told .0 .1) k
     ∷ read (l .plant) (told .1 .0 .1) k
     ∷ read (l .manure) (told .1 .1 .0 .1) k
+    ∷ read (l .activity) (told .1 .1 .1 .0 .1) k
     ∷ [])
     ∙ in-turn numbers place (landNumbers l)
 
@@ -72,5 +82,8 @@ put-land-spec =
     add-manure
     mul-manure
     slice-set-from-manure
+    add-activity
+    mul-activity
+    slice-set-from-activity
     same-length
     returns)

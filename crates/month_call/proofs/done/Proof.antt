@@ -36,6 +36,7 @@ built s kept after =
             deficit = after .deficit;
             months = s .months + 1;
             co2 = grams (s .co2 .0 + after .co2 .0);
+            modern = after .modern;
             kept = kept;
           };
     }
@@ -48,28 +49,28 @@ built-is s e = refl
 one-more-kept-requires : tie.Need-one-more-kept-requires
 one-more-kept-requires c κs = search needs
 
-array-copy-out-t15 : tie.Need-array-copy-out-t15
-array-copy-out-t15 c = search needs
+array-copy-out-t16 : tie.Need-array-copy-out-t16
+array-copy-out-t16 c = search needs
 
-array-copy-out-t18 : tie.Need-array-copy-out-t18
-array-copy-out-t18 c = search needs
+array-copy-out-t19 : tie.Need-array-copy-out-t19
+array-copy-out-t19 c = search needs
 
-array-copy-out-t21 : tie.Need-array-copy-out-t21
-array-copy-out-t21 c = search needs
+array-copy-out-t22 : tie.Need-array-copy-out-t22
+array-copy-out-t22 c = search needs
 
-array-copy-out-t24 : tie.Need-array-copy-out-t24
-array-copy-out-t24 c = search needs
-
-add-t26 : tie.Need-add-t26
-add-t26 c = search needs
+array-copy-out-t25 : tie.Need-array-copy-out-t25
+array-copy-out-t25 c = search needs
 
 add-t27 : tie.Need-add-t27
 add-t27 c = search needs
 
+add-t28 : tie.Need-add-t28
+add-t28 c = search needs
+
 returns : tie.Need-returns
 unfolding built
 returns c e given =
-    let kept = c .before .before .before .before .before .before .before .before .before .before in
+    let kept = c .before .before .before .before .before .before .before .before .before .before .before in
     let a = kept .before .before .before .before .args in
     (λ i. built (a .s) (kept .one-more-kept .ensures i) (given i)) ∙ built-is (a .s) e
 
@@ -78,10 +79,10 @@ done-spec =
     tie.close
     (tie.spec
     one-more-kept-requires
-    array-copy-out-t15
-    array-copy-out-t18
-    array-copy-out-t21
-    array-copy-out-t24
-    add-t26
+    array-copy-out-t16
+    array-copy-out-t19
+    array-copy-out-t22
+    array-copy-out-t25
     add-t27
+    add-t28
     returns)

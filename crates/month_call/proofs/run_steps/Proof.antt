@@ -1,20 +1,14 @@
 -- `month_call::run_steps` meets its contract: what each call ensures is the definition's step.
 -- Assumes nothing.
 use mathlib.Core.Path.{_≡_, _∙_, ap}
-use mathlib.Core.List.{List}
 use Prim.Native.Nat.{ℕ, _+_}
 use native.Mathlib.Omega.{arith}
-use lib.IntN.{natAbs}
-use Rattle.number_units.specs.declared.Grams.{Grams}
-use Rattle.step_factors.specs.Factors.{clayNumber}
+use borrow.Author.Needs.{needs}
 use Rattle.step_decay.specs.Rates.{survivals}
-use Rattle.step_pools.specs.Pools.{grams, total}
-use Rattle.step_decay.specs.Decay.{decayed}
-use Rattle.step_additions.specs.Additions.{added}
-use Rattle.month_refusals.proofs.Accepted.{Sound, Ready}
-use Rattle.month_call.specs.Month.{rateAfter, poolsAfter, gasOf, nextRate, stepsOf}
-use Rattle.month_refusals.proofs.Accepted.{sound-state, ready, entries-parts}
-use Rattle.month_call.proofs.Steps.{deficit-most, state-rate-most, decay-total}
+use Rattle.step_pools.specs.Pools.{grams}
+use Rattle.month_refusals.proofs.Accepted.{Sound, Ready, sound-state, ready, entries-parts}
+use Rattle.month_call.specs.Month.{rateAfter, poolsAfter, gasOf, modernAfter, nextRate, stepsOf}
+use Rattle.month_call.proofs.Steps.{deficit-most, state-rate-most, clay-number-most}
 use Rattle.month_call.proofs.run_steps.Statement.{statement}
 use Rattle.month_call.proofs.run_steps.Tie as tie
 
@@ -40,70 +34,82 @@ rate-after-requires c κs =
     let largest = c .before .max-deficit .ensures in
     (b .pre, largest, omega (arith, largest, c .deficit-after .ensures, deficit-most (b .args .s) (b .args .e) (sound b)))
 
--- the rate number is that of the definition, ..
+-- the rate number is that of the definition
 rate-is : (c : tie.After-rate-after) → let a = start (c .before .before) .args in c .rate-after .result ≡ nextRate (a .s) (a .e)
 unfolding nextRate
 rate-is c =
     let a = start (c .before .before) .args in
     c .rate-after .ensures ∙ ap (λ (d : ℕ). rateAfter (a .s .soil) d (a .e)) (c .before .deficit-after .ensures)
 
-after-decay-requires : tie.Need-after-decay-requires
-after-decay-requires c κs =
+survivals-requires : tie.Need-survivals-requires
+survivals-requires c κs =
     let b = start (c .before .before) in
-    (b .pre .state, omega (arith, rate-is c, state-rate-most (b .args .s) (b .args .e) (sound b) (entries b)))
+    omega (arith, rate-is c, state-rate-most (b .args .s) (b .args .e) (sound b) (entries b))
 
--- .. and so are the month's CO2 ..
-gas-is :
-    (c : tie.After-after-decay)
-    → let a = start (c .before .before .before) .args in c .after-decay .result .co2 .0 ≡ gasOf (a .s .soil) (nextRate (a .s) (a .e))
-gas-is c =
-    let a = start (c .before .before .before) .args in
-    c .after-decay .ensures .1 ∙ ap (gasOf (a .s .soil)) (rate-is (c .before))
+clay-number-requires : tie.Need-clay-number-requires
+clay-number-requires c κs = sound (start (c .before .before .before)) .soil .clay
 
--- .. and the pools that are left, which with that CO2 are the pools before.
-left-is :
-    (c : tie.After-after-decay)
-    → let a = start (c .before .before .before) .args in
-    c .after-decay .result .pools
-    ≡ decayed (a .s .soil .pools) (survivals (nextRate (a .s) (a .e))) (clayNumber (a .s .soil .clay))
-left-is c =
-    let a = start (c .before .before .before) .args in
-    c .after-decay .ensures .0
-    ∙ ap (λ (n : ℕ). decayed (a .s .soil .pools) (survivals n) (clayNumber (a .s .soil .clay))) (rate-is (c .before))
+additions-of-requires : tie.Need-additions-of-requires
+additions-of-requires c κs =
+    let b = start (c .before .before .before .before) in
+    entries-parts (b .args .s) (b .args .e) (b .pre .entries) .land
 
-balance :
-    (c : tie.After-after-decay)
-    → let a = start (c .before .before .before) .args in
-    total (c .after-decay .result .pools) + c .after-decay .result .co2 .0 ≡ total (a .s .soil .pools)
-balance c =
-    let b = start (c .before .before .before) in
-    rw (left-is c, gas-is c)
-    (decay-total (b .args .s .soil) _ (sound b .soil) (state-rate-most (b .args .s) (b .args .e) (sound b) (entries b)))
+turn-over-requires : tie.Need-turn-over-requires
+turn-over-requires c κs =
+    let given = c .before in
+    let clay = given .before in
+    let b = start (clay .before .before .before .before) in
+    let soil = sound b .soil in (
+      (clay .before .survivals .ensures .1, omega (arith, clay .clay-number .ensures), soil .first-kind, soil .last-kind),
+      omega (arith, soil .pools, given .additions-of .ensures),
+    )
 
-after-additions-requires : tie.Need-after-additions-requires
-after-additions-requires c κs =
-    let b = start (c .before .before .before .before .before) in
-    (b .pre .state, entries-parts (b .args .s) (b .args .e) (b .pre .entries) .land, omega (arith, balance (c .before .before), sound b .soil .pools))
+modern-after-requires : tie.Need-modern-after-requires
+modern-after-requires c κs = search needs
 
-pools-are :
-    (c : tie.After-after-additions)
-    → let a = start (c .before .before .before .before .before .before) .args in
-    c .after-additions .result ≡ poolsAfter (a .s .soil) (nextRate (a .s) (a .e)) (a .e .land)
-unfolding poolsAfter
-pools-are c =
-    let a = start (c .before .before .before .before .before .before) .args in
-    c .after-additions .ensures
-    ∙ ap (λ (pools : List Grams). added pools (a .s .soil .kind) (natAbs (a .e .land .plant)) (natAbs (a .e .land .manure)))
-    (left-is (c .before .before .before))
+-- Grams, CO2 and modern grams of the turnovers are the definition's.
+carbon-is :
+    (c : tie.After-turn-over)
+    → let a = start (c .before .before .before .before .before .before .before) .args in
+    (c .turn-over .result .pools ≡ poolsAfter (a .s .soil) (nextRate (a .s) (a .e)) (a .e .land))
+    × (c .turn-over .result .co2 .0 ≡ gasOf (a .s .soil) (nextRate (a .s) (a .e)))
+unfolding poolsAfter gasOf
+carbon-is c =
+    let given = c .before .before in
+    let clay = given .before in
+    let survival = clay .before in
+    let is = survival .survivals .ensures .0 ∙ ap survivals (rate-is (survival .before)) in
+    let t = c .turn-over .ensures in (
+      t .0 ∙ rw (is, clay .clay-number .ensures .0, given .additions-of .ensures .0 .0, given .additions-of .ensures .1 .0 .0),
+      t .1 ∙ rw (is, clay .clay-number .ensures .0),
+    )
+
+modern-is :
+    (c : tie.After-modern-after)
+    → let a = start (c .before .before .before .before .before .before .before .before) .args in
+    c .modern-after .result ≡ modernAfter (a .s .soil) (a .s .modern) (nextRate (a .s) (a .e)) (a .e .land)
+unfolding modernAfter
+modern-is c =
+    let given = c .before .before .before in
+    let clay = given .before in
+    let survival = clay .before in
+    let is = survival .survivals .ensures .0 ∙ ap survivals (rate-is (survival .before)) in
+    let g = given .additions-of .ensures in
+    c .modern-after .ensures ∙ rw (is, clay .clay-number .ensures .0, g .0 .0, g .1 .0 .0, g .1 .1 .0)
 
 returns : tie.Need-returns
 unfolding stepsOf
 returns c =
-    let decayed = c .before .before .before in
-    let pools = pools-are c in
-    let gas = gas-is decayed in
-    let deficit = decayed .before .before .deficit-after .ensures in
-    λ i. record { pools = pools i; co2 = grams (gas i); deficit = record { 0 = deficit i } }
+    let turned = c .before .before in
+    let carbon = carbon-is (turned .before) in
+    let modern = modern-is turned in
+    let deficit = turned .before .before .before .before .before .before .before .deficit-after .ensures in
+    λ i. record {
+      pools = carbon .0 i;
+      co2 = grams (carbon .1 i);
+      deficit = record { 0 = deficit i };
+      modern = modern i;
+    }
 
 pub run-steps-spec : {M : Type 1} → statement M
 run-steps-spec =
@@ -112,6 +118,9 @@ run-steps-spec =
     max-deficit-requires
     deficit-after-requires
     rate-after-requires
-    after-decay-requires
-    after-additions-requires
+    survivals-requires
+    clay-number-requires
+    additions-of-requires
+    turn-over-requires
+    modern-after-requires
     returns)

@@ -1,4 +1,4 @@
--- `month_layouts::put_kept` meets its contract: eleven stores, one after another, within the memory.
+-- `month_layouts::put_kept` meets its contract: fifteen stores, one after another, within the memory.
 -- Assumes nothing.
 use mathlib.Core.Path.{refl}
 use native.Mathlib.Omega.{arith}
@@ -53,6 +53,30 @@ slice-write-numbers-10 c = simp length-set (omega arith)
 slice-write-numbers-11 : tie.Need-slice-write-numbers-11
 slice-write-numbers-11 c = simp length-set (omega arith)
 
+element-copy-out-numbers-5 : tie.Need-element-copy-out-numbers-5
+element-copy-out-numbers-5 c = search needs
+
+slice-write-numbers-12 : tie.Need-slice-write-numbers-12
+slice-write-numbers-12 c = simp length-set (omega arith)
+
+element-copy-out-numbers-6 : tie.Need-element-copy-out-numbers-6
+element-copy-out-numbers-6 c = search needs
+
+slice-write-numbers-13 : tie.Need-slice-write-numbers-13
+slice-write-numbers-13 c = simp length-set (omega arith)
+
+element-copy-out-numbers-7 : tie.Need-element-copy-out-numbers-7
+element-copy-out-numbers-7 c = search needs
+
+slice-write-numbers-14 : tie.Need-slice-write-numbers-14
+slice-write-numbers-14 c = simp length-set (omega arith)
+
+element-copy-out-numbers-8 : tie.Need-element-copy-out-numbers-8
+element-copy-out-numbers-8 c = search needs
+
+slice-write-numbers-15 : tie.Need-slice-write-numbers-15
+slice-write-numbers-15 c = simp length-set (omega arith)
+
 same-length : tie.Need-same-length
 same-length c = simp length-set
 
@@ -79,5 +103,13 @@ put-kept-spec =
     slice-write-numbers-9
     slice-write-numbers-10
     slice-write-numbers-11
+    element-copy-out-numbers-5
+    slice-write-numbers-12
+    element-copy-out-numbers-6
+    slice-write-numbers-13
+    element-copy-out-numbers-7
+    slice-write-numbers-14
+    element-copy-out-numbers-8
+    slice-write-numbers-15
     same-length
     returns)

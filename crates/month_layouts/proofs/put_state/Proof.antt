@@ -1,4 +1,4 @@
--- `month_layouts::put_state` meets its contract: the eleven numbers, and one store after them.
+-- `month_layouts::put_state` meets its contract: its numbers, and one store after them.
 -- Assumes nothing.
 use Rattle.month_layouts.specs.Layouts.{keptNumbers, stateNumbers}
 use borrow.Author.Needs.{needs}

@@ -6,16 +6,16 @@ use Rattle.month_refusals.specs.Refusals.{carbonAbove}
 use Rattle.month_refusals.proofs.carbon_above.Statement.{statement}
 use Rattle.month_refusals.proofs.carbon_above.Tie as tie
 
-over-ceiling-requires : tie.Need-over-ceiling-requires
-over-ceiling-requires c κs = search needs
+total-above-requires : tie.Need-total-above-requires
+total-above-requires c κs = search needs
 
 returns : tie.Need-returns
 unfolding carbonAbove
-returns c = simp (sym (c .before .over-ceiling .ensures) ∙ c .if1 .taken)
+returns c = simp (sym (c .before .total-above .ensures) ∙ c .if1 .taken)
 
 returns-2 : tie.Need-returns-2
 unfolding carbonAbove
-returns-2 c = simp (sym (c .before .before .over-ceiling .ensures) ∙ c .before .if1 .left)
+returns-2 c = simp (sym (c .before .before .total-above .ensures) ∙ c .before .if1 .left)
 
 pub carbon-above-spec : {M : Type 1} → statement M
-carbon-above-spec = tie.close (tie.spec over-ceiling-requires returns returns-2)
+carbon-above-spec = tie.close (tie.spec total-above-requires returns returns-2)

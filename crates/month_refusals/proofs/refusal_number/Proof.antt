@@ -64,6 +64,12 @@ enum-told-19 c = search needs
 enum-told-20 : tie.Need-enum-told-20
 enum-told-20 c = search needs
 
+enum-told-21 : tie.Need-enum-told-21
+enum-told-21 c = search needs
+
+enum-told-22 : tie.Need-enum-told-22
+enum-told-22 c = search needs
+
 returns : tie.Need-returns
 returns c = rw (c .enum-told .given .1)
 
@@ -124,6 +130,12 @@ returns-19 c = rw (c .enum-told19 .given .1)
 returns-20 : tie.Need-returns-20
 returns-20 c = rw (c .enum-told20 .given .1)
 
+returns-21 : tie.Need-returns-21
+returns-21 c = rw (c .enum-told21 .given .1)
+
+returns-22 : tie.Need-returns-22
+returns-22 c = rw (c .enum-told22 .given .1)
+
 pub refusal-number-spec : {M : Type 1} → statement M
 refusal-number-spec =
     tie.close
@@ -148,6 +160,8 @@ refusal-number-spec =
     enum-told-18
     enum-told-19
     enum-told-20
+    enum-told-21
+    enum-told-22
     returns
     returns-2
     returns-3
@@ -167,4 +181,6 @@ refusal-number-spec =
     returns-17
     returns-18
     returns-19
-    returns-20)
+    returns-20
+    returns-21
+    returns-22)

@@ -5,7 +5,7 @@ use Rattle.test_calls.proofs.main.Statement.{statement}
 use Rattle.test_calls.proofs.main.Tie as tie
 
 slice-aggregate-read-calls : tie.Need-slice-aggregate-read-calls
-slice-aggregate-read-calls c = filled-length 900001 0
+slice-aggregate-read-calls c = filled-length 1200001 0
 
 read-calls-requires : tie.Need-read-calls-requires
 read-calls-requires c κs = search needs

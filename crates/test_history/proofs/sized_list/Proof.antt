@@ -21,7 +21,7 @@ array-borrow-prefix-lands c = search needs
 
 slice-aggregate-list : tie.Need-slice-aggregate-list
 slice-aggregate-list c =
-    filled-part 180 (3 * c .before .before .months-of .result) (pos 0) (omega arith)
+    filled-part 240 (4 * c .before .before .months-of .result) (pos 0) (omega arith)
 
 array-borrow-prefix-rows : tie.Need-array-borrow-prefix-rows
 array-borrow-prefix-rows c = search needs

@@ -6,7 +6,7 @@ use Rattle.test_calls.proofs.call.current.Statement.{statement}
 use Rattle.test_calls.proofs.call.current.Tie as tie
 
 slice-aggregate-result : tie.Need-slice-aggregate-result
-slice-aggregate-result c = part-length (c .before .args .state .now) 12 (omega arith)
+slice-aggregate-result c = part-length (c .before .args .state .now) 16 (omega arith)
 
 returns : tie.Need-returns
 returns c = search needs

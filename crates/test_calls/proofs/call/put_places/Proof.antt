@@ -8,7 +8,7 @@ use Rattle.test_calls.proofs.call.put_places.Statement.{statement}
 use Rattle.test_calls.proofs.call.put_places.Tie as tie
 
 abbrev Inv-loop : tie.InvT-loop
-Inv-loop state₀ base i₀ state i = (12 ≤ i) × (length state ≡ length state₀)
+Inv-loop state₀ base i₀ state i = (16 ≤ i) × (length state ≡ length state₀)
 
 abbrev μ-loop : tie.MeasureT-loop
 μ-loop state₀ base i₀ state i = length state - i

@@ -9,7 +9,7 @@ slice-relend-prefix-read-numbers : tie.Need-slice-relend-prefix-read-numbers
 slice-relend-prefix-read-numbers c = search needs
 
 slice-aggregate-read-numbers : tie.Need-slice-aggregate-read-numbers
-slice-aggregate-read-numbers c = part-length (c .before .before .before .args .state .now) 12 (omega arith)
+slice-aggregate-read-numbers c = part-length (c .before .before .before .args .state .now) 16 (omega arith)
 
 read-numbers-requires : tie.Need-read-numbers-requires
 read-numbers-requires c κs = search needs

@@ -1,4 +1,4 @@
--- `month_refusals::over_ceiling` meets its contract: a pool above the ceiling puts the sum above it, and four pools at or below it
+-- `month_refusals::total_above` meets its contract: a pool above the bound puts the sum above it, and four pools at or below it
 -- have a sum that fits.
 -- Assumes nothing.
 use borrow.Author.Needs.{needs}
@@ -9,12 +9,11 @@ use native.Mathlib.Omega.{arith}
 use borrow.Author.Tests.{lt-ltb}
 use lib.Dec.{ltb}
 use Rattle.step_pools.specs.Pools.{total}
-use Rattle.month_state.specs.State.{carbonCeiling}
-use Rattle.month_refusals.proofs.over_ceiling.Statement.{statement}
-use Rattle.month_refusals.proofs.over_ceiling.Tie as tie
+use Rattle.month_refusals.proofs.total_above.Statement.{statement}
+use Rattle.month_refusals.proofs.total_above.Tie as tie
 
-over : (n : ℕ) → carbonCeiling < n → true ≡ ltb carbonCeiling n
-over n h = sym (lt-ltb carbonCeiling n h)
+over : (bound n : ℕ) → bound < n → true ≡ ltb bound n
+over bound n h = sym (lt-ltb bound n h)
 
 element-copy-out-dpm : tie.Need-element-copy-out-dpm
 element-copy-out-dpm c = search needs
@@ -30,19 +29,19 @@ element-copy-out-hum c = search needs
 
 returns : tie.Need-returns
 unfolding total
-returns c = over (total (c .before .args .t1)) (omega arith)
+returns c = over _ (total (c .before .args .t2)) (omega arith)
 
 returns-2 : tie.Need-returns-2
 unfolding total
-returns-2 c = over (total (c .before .before .args .t1)) (omega arith)
+returns-2 c = over _ (total (c .before .before .args .t2)) (omega arith)
 
 returns-3 : tie.Need-returns-3
 unfolding total
-returns-3 c = over (total (c .before .before .before .args .t1)) (omega arith)
+returns-3 c = over _ (total (c .before .before .before .args .t2)) (omega arith)
 
 returns-4 : tie.Need-returns-4
 unfolding total
-returns-4 c = over (total (c .before .before .before .before .args .t1)) (omega arith)
+returns-4 c = over _ (total (c .before .before .before .before .args .t2)) (omega arith)
 
 add-result : tie.Need-add-result
 add-result c = search needs
@@ -57,8 +56,8 @@ returns-5 : tie.Need-returns-5
 unfolding total
 returns-5 c = refl
 
-pub over-ceiling-spec : {M : Type 1} → statement M
-over-ceiling-spec =
+pub total-above-spec : {M : Type 1} → statement M
+total-above-spec =
     tie.close
     (tie.spec
     element-copy-out-dpm

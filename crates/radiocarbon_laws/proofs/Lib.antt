@@ -1,0 +1,5 @@
+pub mod Nothing
+pub mod Months
+pub mod Rows
+pub mod CarbonAlone
+pub mod Bounds
