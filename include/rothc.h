@@ -85,7 +85,8 @@ enum {
   ROTHC_KEPT_LIMIT = 24, /* the most that are kept */
   ROTHC_STATE = 376,     /* the current state's 15, the kept count, and 24 places of 15 */
   ROTHC_WEATHER = 4,     /* a weather row */
-  ROTHC_LAND = 4,        /* a land row */
+  ROTHC_LAND = 4,        /* a land row; three before change 2026-04: lists in threes whose length
+                            is a multiple of four are not refused but misread */
   ROTHC_ENTRIES = 8,     /* a month's: a weather row and a land row */
   ROTHC_ROW = 7,
   ROTHC_RESULT = 2,
@@ -286,7 +287,7 @@ uint64_t rothc_age_survival(uint64_t years);
  * Returns the number of the refusal, or 0 where the book ran.
  * ROOM: out is too short. Then out is as it was, and length says how many bytes are wanted;
  * ROTHC_TEXT bytes are always enough.
- * The call needs 352 kilobytes of stack. */
+ * The call needs 360 kilobytes of stack. */
 uint64_t rothc_book(const uint8_t *book, size_t book_len, uint8_t *out, size_t out_len,
                     uint64_t *length);
 

@@ -6,8 +6,9 @@
 #include "rothc.h"
 
 static const uint64_t soil[ROTHC_SOIL] = {234, 23, 1, 153300, 4485200, 667100, 25857600, 2700000};
-// the fourth number is 0: the evaporation is an open pan's
-static const int64_t january[ROTHC_ENTRIES] = {34, 740, 80, 0, 0, 0, 0};
+// the fourth number is 0: the evaporation is an open pan's; the last is the activity of additions,
+// of which there are none here: 1000 is fresh carbon's
+static const int64_t january[ROTHC_ENTRIES] = {34, 740, 80, 0, 0, 0, 0, 1000};
 static const char book[] = "SOIL 1\n234 23 1 153300 4485200 667100 25857600 2700000\nWEATHER 1\n34 740 80\nLAND 1\n0 0 0\n";
 
 // The program's two lines: the month with its row, and the five pools together with the CO2 to
@@ -34,7 +35,7 @@ int main(void) {
   if (refused("rothc_month", rothc_month(state, ROTHC_STATE, 1, january, ROTHC_ENTRIES, row, ROTHC_ROW))) return 1;
   print(1, row, state);
 
-  // the entries' first four numbers are a weather row, and the last three a land row
+  // the entries' first four numbers are a weather row, and the last four a land row
   memcpy(state, start, sizeof state);
   if (refused("rothc_list", rothc_list(state, ROTHC_STATE, january, ROTHC_WEATHER, january + ROTHC_WEATHER, ROTHC_LAND,
                                        row, ROTHC_ROW, &place)))

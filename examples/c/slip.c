@@ -8,17 +8,19 @@
 
 #include "rothc.h"
 
-enum { JANUARY, FEBRUARY, MARCH, DECEMBER = 11, YEAR, SLIP = 1500000 };
+enum { JANUARY, FEBRUARY, MARCH, DECEMBER = 11, YEAR, SLIP = 1500000, FRESH = 1000 };
 static const uint64_t soil[ROTHC_SOIL] = {180, 23, 1, 160000, 4900000, 700000, 24000000, 2600000};
 static const int64_t weather[YEAR][ROTHC_WEATHER] = {
     {34, 740, 80, 0},   {36, 590, 100, 0},  {51, 620, 272, 0},   {73, 510, 492, 0},
     {110, 520, 832, 0}, {139, 570, 992, 0}, {160, 340, 1032, 0}, {160, 550, 912, 0},
     {135, 580, 692, 0}, {102, 560, 340, 0}, {61, 750, 160, 0},   {46, 710, 80, 0}};
-// what was done on the land, and in February what was entered first
+// what was done on the land, and in February what was entered first; all carbon is fresh
 static const int64_t land[YEAR][ROTHC_LAND] = {
-    {0, 0, 0},      {0, 0, SLIP}, {0, 0, 0}, {1, 160000, 0}, {1, 320000, 0}, {1, 480000, 0},
-    {1, 640000, 0}, {0, 0, 0},    {0, 0, 0}, {0, 0, 0},      {0, 0, 0},      {0, 0, 0}};
-static const int64_t without_slip[ROTHC_LAND] = {0, 0, 0};
+    {0, 0, 0, FRESH},      {0, 0, SLIP, FRESH},   {0, 0, 0, FRESH},
+    {1, 160000, 0, FRESH}, {1, 320000, 0, FRESH}, {1, 480000, 0, FRESH},
+    {1, 640000, 0, FRESH}, {0, 0, 0, FRESH},      {0, 0, 0, FRESH},
+    {0, 0, 0, FRESH},      {0, 0, 0, FRESH},      {0, 0, 0, FRESH}};
+static const int64_t without_slip[ROTHC_LAND] = {0, 0, 0, FRESH};
 
 static void wanted(const char *call, uint64_t answer, uint64_t expected) {
   if (answer == expected) return;

@@ -4,10 +4,11 @@
 """
 import ctypes
 
-from rothc import CO2, Signed, Unsigned, done, lent, load, new_state, run_book, total
+from rothc import CO2, FRESH, Signed, Unsigned, done, lent, load, new_state, run_book, total
 
 BOOK = b"SOIL 1\n234 23 1 153300 4485200 667100 25857600 2700000\nWEATHER 1\n34 740 80\nLAND 1\n0 0 0\n"
-WEATHER, LAND = [34, 740, 80, 0], [0, 0, 0]  # the fourth number: the evaporation is an open pan's
+WEATHER = [34, 740, 80, 0]  # the fourth number: the evaporation is an open pan's
+LAND = [0, 0, 0, FRESH]  # the fourth number: the activity of additions, of which there are none
 
 
 def show(month, row, state):

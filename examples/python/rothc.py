@@ -6,10 +6,13 @@ import sys
 Unsigned, Signed, Byte, Size = ctypes.c_uint64, ctypes.c_int64, ctypes.c_uint8, ctypes.c_size_t
 LIBRARY = pathlib.Path(__file__).resolve().parents[2] / "target" / "library" / "librothc.so"
 TEXT = 204800  # always enough bytes for what is written for a book
-WEATHER, LAND, ROW = 4, 3, 7  # the numbers of a weather row, a land row and a month's row
-STATE = 276  # the numbers of a state, kept months too
-MONTHS, CO2, KEPT = 9, 10, 11  # in a state: the months done, the CO2 to date, the kept count
-MOST_ROWS = 1200  # the most lines of a table
+WEATHER, LAND, ROW = 4, 4, 7  # the numbers of a weather row, a land row and a month's row
+STATE = 376  # the numbers of a state, kept months too
+MONTHS, CO2, KEPT = 9, 10, 15  # in a state: the months done, the CO2 to date, the kept count
+MOST_ROWS = 1200  # the most rows of a list, and the most lines of a table
+FRESH = 1000  # the activity of fresh carbon, in thousandths
+DPM, RPM, BIO, HUM, IOM, ALL = range(6)  # what a radiocarbon report is of
+DATED, OLDER, NEWER = range(3)  # whether a report has an age
 
 
 def load():
@@ -26,6 +29,8 @@ def load():
         "rothc_take_back": numbers,
         "rothc_list": numbers + signed + signed + numbers + number,
         "rothc_spin_up": numbers + signed + signed + [Unsigned] + numbers,
+        "rothc_radiocarbon": numbers + [Unsigned] + signed,
+        "rothc_age_survival": [Unsigned],
         "rothc_book": octets + octets + number,
         "rothc_table": octets + signed + number + number,
     }.items():
@@ -70,6 +75,23 @@ def kept(state):
 def take_back(library, state):
     """Takes the latest month back. Gives the refusal, 20 where none is left, or 0."""
     return library.rothc_take_back(*state)
+
+
+def run_list(library, state, weather, land):
+    """Runs a list of months: its refusal, or 0, the refusal's month, and the rows' numbers."""
+    rows, month = lent(Unsigned, [0] * (ROW * (len(land) // LAND))), Unsigned(0)
+    number = library.rothc_list(
+        *state, *lent(Signed, weather), *lent(Signed, land), *rows, ctypes.byref(month)
+    )
+    return number, month.value, rows[0]
+
+
+def radiocarbon(library, state, pool):
+    """The refusal of a report on a pool or on ALL, 22 where it has no carbon, or 0; delta in
+    hundredths of a per mille; DATED, OLDER or NEWER; and the age in years, 0 where not DATED."""
+    report = lent(Signed, [0] * 3)
+    number = library.rothc_radiocarbon(*state, pool, *report)
+    return number, *report[0]
 
 
 def run_book(library, book):

@@ -7,7 +7,7 @@ booked afresh, February with the slip's manure. The sheet is then that of a year
 came in time. Below it stands what version three of the estate's program did: it ran the slip as a
 month of its own. docs/SLIPS.md says what to do with a late slip.
 """
-from rothc import CO2, MONTHS, ROW, Signed, Unsigned
+from rothc import CO2, FRESH, MONTHS, ROW, Signed, Unsigned
 from rothc import done, kept, lent, load, new_state, run_book, take_back, total
 
 NAMES = ["January", "February", "March", "April", "May", "June", "July", "August", "September"]
@@ -21,7 +21,7 @@ WEATHER = [
     [110, 520, 832, 0], [139, 570, 992, 0], [160, 340, 1032, 0], [160, 550, 912, 0],
     [135, 580, 692, 0], [102, 560, 340, 0], [61, 750, 160, 0], [46, 710, 80, 0],
 ]
-# cover, plant and manure as they were entered: without the slip
+# cover, plant and manure, as in a book, as they were entered: without the slip
 LAND = [[0, 0, 0]] * 3 + [[1, 160_000, 0], [1, 320_000, 0], [1, 480_000, 0], [1, 640_000, 0]]
 LAND += [[0, 0, 0]] * 5
 SLIP = 1_500_000
@@ -40,7 +40,8 @@ def land_row(name, manure):
 
 def month_call(rothc, state, number, name, manure):
     """A month by its number, with the entries of its name: the refusal, or 0, and the row."""
-    entries, row = lent(Signed, WEATHER[name] + land_row(name, manure)), lent(Unsigned, [0] * ROW)
+    entries = lent(Signed, WEATHER[name] + land_row(name, manure) + [FRESH])
+    row = lent(Unsigned, [0] * ROW)
     return rothc.rothc_month(*state, number, *entries, *row), list(row[0])
 
 

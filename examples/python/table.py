@@ -11,12 +11,10 @@ It writes what the program writes for a book, or one REFUSED line that says whic
 is at fault (exit status 1). What can't be tried at all is said on standard error (status 2).
 docs/TABLES.md says how a table is written, docs/BOOK.md how a book is.
 """
-import ctypes
 import sys
 
-from rothc import (
-    CO2, LAND, ROW, Signed, Unsigned, lent, load, new_state, read_table, run_book, stop, total,
-)
+from rothc import CO2, FRESH, LAND, ROW
+from rothc import load, new_state, read_table, run_book, run_list, stop, total
 
 BOOK_FAULTS = {
     1: "it has more than 65,536 bytes",
@@ -82,19 +80,17 @@ def main():
     # SOIL 1, the soil, WEATHER n, n weather lines, LAND, and land lines to the end
     lines = book.split(b"\n")
     land_line = int(lines[2].split()[1]) + 4
-    soil, land = numbers(lines[1:2]), numbers(lines[land_line:])
+    # (a list's land row has a fourth number, the activity: of a book's carbon it is fresh carbon's)
+    soil, land = numbers(lines[1:2]), numbers(line + b" %d" % FRESH for line in lines[land_line:-1])
     months = len(land) // LAND
 
-    state, rows = new_state(rothc, soil), lent(Unsigned, [0] * (ROW * months))
-    place = Unsigned(0)
-    number = rothc.rothc_list(
-        *state, *lent(Signed, weather), *lent(Signed, land), *rows, ctypes.byref(place)
-    )
+    state = new_state(rothc, soil)
+    number, month, rows = run_list(rothc, state, weather, land)
     if number:  # 17: less decays by the table's weather than by the book's
-        refuse_book(number, land_line + place.value, "the table's")
+        refuse_book(number, land_line + month, "the table's")
     print("POOLS", months)
     for month in range(months):
-        print(month + 1, *rows[0][ROW * month : ROW * (month + 1)])
+        print(month + 1, *rows[ROW * month : ROW * (month + 1)])
     print("TOTAL", total(state), state[0][CO2])
 
 

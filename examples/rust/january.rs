@@ -31,8 +31,8 @@ mod rothc {
     }
 
     // The current state, the kept count and the places of kept states.
-    const STATE: usize = 276;
-    pub const KEPT: usize = 11; // the index of the kept count
+    const STATE: usize = 376;
+    pub const KEPT: usize = 15; // the index of the kept count
     pub type State = [u64; STATE];
     pub type Row = [u64; 7];
 
@@ -46,7 +46,7 @@ mod rothc {
         }
     }
 
-    pub fn month(state: &mut State, number: u64, entries: &[i64; 7]) -> Result<Row, u64> {
+    pub fn month(state: &mut State, number: u64, entries: &[i64; 8]) -> Result<Row, u64> {
         let mut row = [0; 7];
         let answer = unsafe {
             c::rothc_month(state.as_mut_ptr(), state.len(), number, entries.as_ptr(), entries.len(), row.as_mut_ptr(), row.len())
@@ -112,9 +112,10 @@ fn main() {
     let soil = [234, 23, 1, 153300, 4485200, 667100, 25857600, 2700000];
     let start = rothc::start(&soil).expect("rothc_start: refused");
 
-    // the fourth number is 0: the evaporation is an open pan's
+    // the fourth number is 0: the evaporation is an open pan's; the last is the activity of
+    // additions, of which there are none here: 1000 is fresh carbon's
     let mut state = start;
-    let row = rothc::month(&mut state, 1, &[34, 740, 80, 0, 0, 0, 0]).expect("rothc_month: refused");
+    let row = rothc::month(&mut state, 1, &[34, 740, 80, 0, 0, 0, 0, 1000]).expect("rothc_month: refused");
     print(1, &row, &state);
 
     // taken back, the field is new again, and no month is left to take back
@@ -124,7 +125,7 @@ fn main() {
 
     let mut state = start;
     let mut row = [0; 7];
-    rothc::list(&mut state, &[34, 740, 80, 0], &[0, 0, 0], &mut row).expect("rothc_list: refused");
+    rothc::list(&mut state, &[34, 740, 80, 0], &[0, 0, 0, 1000], &mut row).expect("rothc_list: refused");
     print(1, &row, &state);
 
     let book = b"SOIL 1\n234 23 1 153300 4485200 667100 25857600 2700000\nWEATHER 1\n34 740 80\nLAND 1\n0 0 0\n";

@@ -29,6 +29,8 @@ use Rattle.month_refusals.specs.Refusals.{stateCheck, entriesCheck, monthCheck}
 use Rattle.month_call.specs.declared.Answer.{Answer}
 use Rattle.month_call.specs.declared.Answer.the-variants.{Done, Refused}
 use Rattle.month_call.specs.declared.Outcome.{Outcome}
+use Rattle.month_call.specs.declared.Additions.{Additions}
+use Rattle.month_call.specs.declared.TurnedBoth.{TurnedBoth}
 use Rattle.month_call.specs.declared.AfterSteps.{AfterSteps}
 
 -- ---- the steps
@@ -76,6 +78,25 @@ modernAfter s modern n l =
     turnedOver (aged modern) (survivals n) (clayNumber (s .clay)) (s .kind)
     (modernGrams (natAbs (l .plant)) (natAbs (l .activity)))
     (modernGrams (natAbs (l .manure)) (natAbs (l .activity)))
+
+-- The same three of four survival numbers, a clay number and a month's additions, for the function
+-- that is handed these.
+pub record TurnedOf
+    (s : State)
+    (survival : List ℕ)
+    (r : ℕ)
+    (given : Additions)
+    (turned : TurnedBoth)
+    : Type 0 where
+  pub pools :
+      turned .pools
+      ≡ turnedOver (s .soil .pools) survival r (s .soil .kind) (given .plant .0) (given .manure .0)
+  pub co2 : turned .co2 .0 ≡ released (s .soil .pools) survival r
+  pub modern :
+      turned .modern
+      ≡ turnedOver (aged (s .modern)) survival r (s .soil .kind)
+      (modernGrams (given .plant .0) (given .activity))
+      (modernGrams (given .manure .0) (given .activity))
 
 -- ---- the month
 

@@ -4,15 +4,13 @@ ghost use mathlib.Core.Path.{_≡_};
 ghost use Prim.Native.Nat.{_+_, _≤_, _<_, _^_};
 ghost use lib.IntN.{natAbs};
 ghost use Rattle.step_decay.specs.Decay.{Survivals};
-ghost use Rattle.step_turnover.specs.Turnover.{turnedOver};
-ghost use Rattle.step_modern.specs.Modern.{modernGrams, aged};
 ghost use Rattle.month_state.specs.declared.Entries.{Entries};
 ghost use Rattle.month_refusals.specs.declared.Check.the-variants.{Pass};
 ghost use Rattle.month_refusals.specs.Asked.{at, told};
 ghost use Rattle.month_refusals.specs.Refusals.{monthAsked, stateCheck, weatherCheck, landCheck};
 ghost use Rattle.month_call.specs.declared.Answer.the-variants.{Refused};
 ghost use Rattle.month_call.specs.Month.{crop, potential, largestDeficit, nextDeficit};
-ghost use Rattle.month_call.specs.Month.{rateAfter, Accepted, stepsOf, outcomeOf};
+ghost use Rattle.month_call.specs.Month.{rateAfter, TurnedOf, Accepted, stepsOf, outcomeOf};
 ghost use Rattle.month_call.specs.Month.{monthCall, listMonth, answerTold};
 use month_checks::check_entries;
 use month_checks::check_month;
@@ -65,6 +63,13 @@ struct Additions {
     plant: Grams,
     manure: Grams,
     activity: u64,
+}
+
+// What steps 5 and 6 give: the pools after the month, its CO2, and the modern grams after it.
+struct TurnedBoth {
+    pools: [Grams; 4],
+    co2: Grams,
+    modern: [Grams; 4],
 }
 
 // Whether a crop covers the soil.
@@ -130,29 +135,51 @@ fn additions_of(l: Land) -> Additions
     }
 }
 
-// The modern grams after a month: a month older, then steps 5 and 6 as for carbon, with what the
-// additions bring by their activity.
-fn modern_after(s: State, survival: [u64; 4], r: u64, given: Additions) -> [Grams; 4]
+// Steps 5 and 6 twice, for the modern grams, a month older and with what the additions bring by
+// their activity, and then for the carbon: with the same survival numbers and the same R. One call
+// in a loop stands for both, so that the compiler can put the function in its place; in two calls
+// all pools went through memory.
+fn turn_both(s: State, survival: [u64; 4], r: u64, given: Additions) -> TurnedBoth
     requires steps { ⌜ (stateCheck s ≡ Pass) × Survivals survival × (r ≤ 1000000) ⌝ }
     requires grams { ⌜ (given .plant .0 ≤ 100000000) × (given .manure .0 ≤ 100000000) ⌝ }
     requires activity { ⌜ given .activity ≤ 2000 ⌝ }
-    ensures { λ t. ⌜ t ≡ turnedOver (aged (s .modern)) survival r (s .soil .kind)
-        (modernGrams (given .plant .0) (given .activity))
-        (modernGrams (given .manure .0) (given .activity)) ⌝ }
+    ensures { λ t. ⌜ TurnedOf s survival r given t ⌝ }
 {
     let soil = s.soil;
-    let modern = s.modern;
-    let older = aged(modern);
-    let plant = modern_grams(given.plant, given.activity);
-    let manure = modern_grams(given.manure, given.activity);
-    let turned = turn_over(older, survival, r, soil.kind, plant, manure);
-    let after = turned.pools;
-    after
+    let kind = soil.kind;
+    let carbon = soil.pools;
+    let before = s.modern;
+    let mut pools = aged(before);
+    let mut plant = modern_grams(given.plant, given.activity);
+    let mut manure = modern_grams(given.manure, given.activity);
+    let mut modern = before;
+    let mut turn: u64 = 0;
+    while turn < 2 {
+        let turned = turn_over(pools, survival, r, kind, plant, manure);
+        let after = turned.pools;
+        let co2 = turned.co2;
+        if turn == 1 {
+            return TurnedBoth {
+                pools: after,
+                co2,
+                modern,
+            };
+        }
+        modern = after;
+        pools = carbon;
+        plant = given.plant;
+        manure = given.manure;
+        turn += 1;
+    }
+    TurnedBoth {
+        pools,
+        co2: Grams(0),
+        modern,
+    }
 }
 
 // Steps 1 to 6 of an accepted month. The row and the state are built of what comes back where they
-// are used, which saves copying both. Carbon and modern grams are turned over by the same survival
-// numbers and the same R.
+// are used, which saves copying both.
 fn run_steps(s: State, e: Entries) -> AfterSteps
     requires { ⌜ Accepted s e ⌝ }
     ensures { λ r. ⌜ r ≡ stepsOf s e ⌝ }
@@ -165,11 +192,10 @@ fn run_steps(s: State, e: Entries) -> AfterSteps
     let survival = survivals(n);
     let r = clay_number(soil.clay);
     let given = additions_of(land);
-    let before = soil.pools;
-    let carbon = turn_over(before, survival, r, soil.kind, given.plant, given.manure);
-    let modern = modern_after(s, survival, r, given);
-    let pools = carbon.pools;
-    let co2 = carbon.co2;
+    let turned = turn_both(s, survival, r, given);
+    let pools = turned.pools;
+    let co2 = turned.co2;
+    let modern = turned.modern;
     AfterSteps {
         pools,
         co2,

@@ -8,7 +8,7 @@ use Rattle.step_decay.specs.Rates.{survivals}
 use Rattle.step_pools.specs.Pools.{grams}
 use Rattle.month_refusals.proofs.Accepted.{Sound, Ready, sound-state, ready, entries-parts}
 use Rattle.month_call.specs.Month.{rateAfter, poolsAfter, gasOf, modernAfter, nextRate, stepsOf}
-use Rattle.month_call.proofs.Steps.{deficit-most, state-rate-most, clay-number-most}
+use Rattle.month_call.proofs.Steps.{deficit-most, state-rate-most}
 use Rattle.month_call.proofs.run_steps.Statement.{statement}
 use Rattle.month_call.proofs.run_steps.Tie as tie
 
@@ -54,61 +54,39 @@ additions-of-requires c κs =
     let b = start (c .before .before .before .before) in
     entries-parts (b .args .s) (b .args .e) (b .pre .entries) .land
 
-turn-over-requires : tie.Need-turn-over-requires
-turn-over-requires c κs =
-    let given = c .before in
-    let clay = given .before in
-    let b = start (clay .before .before .before .before) in
-    let soil = sound b .soil in (
-      (clay .before .survivals .ensures .1, omega (arith, clay .clay-number .ensures), soil .first-kind, soil .last-kind),
-      omega (arith, soil .pools, given .additions-of .ensures),
-    )
+turn-both-requires : tie.Need-turn-both-requires
+turn-both-requires c κs = search needs
 
-modern-after-requires : tie.Need-modern-after-requires
-modern-after-requires c κs = search needs
-
--- Grams, CO2 and modern grams of the turnovers are the definition's.
-carbon-is :
-    (c : tie.After-turn-over)
-    → let a = start (c .before .before .before .before .before .before .before) .args in
-    (c .turn-over .result .pools ≡ poolsAfter (a .s .soil) (nextRate (a .s) (a .e)) (a .e .land))
-    × (c .turn-over .result .co2 .0 ≡ gasOf (a .s .soil) (nextRate (a .s) (a .e)))
-unfolding poolsAfter gasOf
-carbon-is c =
-    let given = c .before .before in
-    let clay = given .before in
+-- Pools, CO2 and modern grams of both turns are the definition's.
+both-are :
+    (c : tie.After-turn-both)
+    → let a = start (c .before .before .before .before .before .before) .args in
+    (c .turn-both .result .pools ≡ poolsAfter (a .s .soil) (nextRate (a .s) (a .e)) (a .e .land))
+    × (c .turn-both .result .co2 .0 ≡ gasOf (a .s .soil) (nextRate (a .s) (a .e)))
+    × (c .turn-both .result .modern ≡ modernAfter (a .s .soil) (a .s .modern) (nextRate (a .s) (a .e)) (a .e .land))
+unfolding poolsAfter gasOf modernAfter
+both-are c =
+    let given = c .before .additions-of .ensures in
+    let clay = c .before .before in
     let survival = clay .before in
     let is = survival .survivals .ensures .0 ∙ ap survivals (rate-is (survival .before)) in
-    let t = c .turn-over .ensures in (
-      t .0 ∙ rw (is, clay .clay-number .ensures .0, given .additions-of .ensures .0 .0, given .additions-of .ensures .1 .0 .0),
-      t .1 ∙ rw (is, clay .clay-number .ensures .0),
+    let t = c .turn-both .ensures in (
+      t .pools ∙ rw (is, clay .clay-number .ensures .0, given .0 .0, given .1 .0 .0),
+      t .co2 ∙ rw (is, clay .clay-number .ensures .0),
+      t .modern ∙ rw (is, clay .clay-number .ensures .0, given .0 .0, given .1 .0 .0, given .1 .1 .0),
     )
-
-modern-is :
-    (c : tie.After-modern-after)
-    → let a = start (c .before .before .before .before .before .before .before .before) .args in
-    c .modern-after .result ≡ modernAfter (a .s .soil) (a .s .modern) (nextRate (a .s) (a .e)) (a .e .land)
-unfolding modernAfter
-modern-is c =
-    let given = c .before .before .before in
-    let clay = given .before in
-    let survival = clay .before in
-    let is = survival .survivals .ensures .0 ∙ ap survivals (rate-is (survival .before)) in
-    let g = given .additions-of .ensures in
-    c .modern-after .ensures ∙ rw (is, clay .clay-number .ensures .0, g .0 .0, g .1 .0 .0, g .1 .1 .0)
 
 returns : tie.Need-returns
 unfolding stepsOf
 returns c =
-    let turned = c .before .before in
-    let carbon = carbon-is (turned .before) in
-    let modern = modern-is turned in
-    let deficit = turned .before .before .before .before .before .before .before .deficit-after .ensures in
+    let both = c .before .before .before in
+    let is = both-are both in
+    let deficit = both .before .before .before .before .before .deficit-after .ensures in
     λ i. record {
-      pools = carbon .0 i;
-      co2 = grams (carbon .1 i);
+      pools = is .0 i;
+      co2 = grams (is .1 i);
       deficit = record { 0 = deficit i };
-      modern = modern i;
+      modern = is .2 i;
     }
 
 pub run-steps-spec : {M : Type 1} → statement M
@@ -121,6 +99,5 @@ run-steps-spec =
     survivals-requires
     clay-number-requires
     additions-of-requires
-    turn-over-requires
-    modern-after-requires
+    turn-both-requires
     returns)
