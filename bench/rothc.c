@@ -484,7 +484,7 @@ static void proved_reports(int pool, int n) {
     int64_t made[ROTHC_REPORT];
     memcpy(state + ROTHC_STATE_MODERN_DPM, modern_grams[i % NUMBERS], sizeof *modern_grams);
     sink += lib.radiocarbon(state, ROTHC_STATE, pool, made, ROTHC_REPORT);
-    sink += made[ROTHC_REPORT_DELTA] + made[ROTHC_REPORT_DATED] + made[ROTHC_REPORT_AGE];
+    sink += made[ROTHC_REPORT_DELTA] + made[ROTHC_REPORT_KIND] + made[ROTHC_REPORT_AGE];
   }
 }
 
@@ -653,7 +653,7 @@ static void compare_report(const uint64_t *state, const field *f, int pool) {
          "a report was refused");
   for (int k = 0; k < 2; k++) {
     report plain = report_on(f, pool, ways[k]);
-    expect(made[ROTHC_REPORT_DATED] == plain.dated, "a report has an age and another has none");
+    expect(made[ROTHC_REPORT_KIND] == plain.dated, "a report has an age and another has none");
     expect(fabs(made[ROTHC_REPORT_DELTA] - plain.delta) <= 1, "a report's delta differs");
     expect(fabs(made[ROTHC_REPORT_AGE] - plain.age) <= 1, "a report's age differs");
   }

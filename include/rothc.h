@@ -11,6 +11,7 @@
  * depth in whole centimetres. The soil moisture deficit is in parts, 2,070,000 to the millimetre.
  * Evaporation is an open pan's, of which 0.75 counts, or potential evapotranspiration, of which all
  * does: the number after it says which.
+ *
  * Radiocarbon (docs/RADIOCARBON.md). Modern grams are grams of carbon times their activity, which
  * is counted in thousandths: fresh carbon of activity 1000 has as many modern grams as grams.
  *
@@ -106,11 +107,12 @@ enum {
  *
  * No call checks the kept states: the places can hold anything. Only rothc_month and rothc_list
  * write them, and only rothc_take_back reads them, so that they need not be set before rothc_start.
- * The 376 numbers can be copied, saved and lent again as they are. Whoever has a state from before
- * change 2026-04 has its first eleven numbers and no modern grams: they must be set (to the pools'
- * grams for pools of activity 1000, to 0 where no one will ask for radiocarbon), and the kept count
- * to 0: with another count rothc_take_back restores whatever stands in the place. For the same
- * reason let only the library change the months done and the kept count. */
+ * The 376 numbers can be copied, saved and lent again as they are. A state saved before change
+ * 2026-04 has 276 and is refused as ROTHC_SHAPE. Of it only index 0 to 10 can be copied (its index
+ * 11 was the kept count). Set the modern grams: to the pools' grams for pools of activity 1000, to 0
+ * where no one will ask for radiocarbon; and the kept count to 0, since with another count
+ * rothc_take_back restores whatever stands in the place. For the same reason let only the library
+ * change the months done and the kept count. */
 enum {
   ROTHC_SOIL_CLAY = 0,
   ROTHC_SOIL_DEPTH = 1,
@@ -143,7 +145,7 @@ enum {
   ROTHC_ENTRIES_PLANT = 5,
   ROTHC_ENTRIES_MANURE = 6,
   ROTHC_ENTRIES_ACTIVITY = 7 /* of plant and manure, in thousandths, 0 to 2,000; where no one asks
-                                for radiocarbon, 1000 or any other */
+                                for radiocarbon, 1000 or any other of them */
 };
 
 /* A month's row, 7 x uint64_t: the pools after the month, the CO2 of the month and the deficit
@@ -179,7 +181,7 @@ enum {
 
 /* A radiocarbon report, 3 x int64_t: delta in hundredths (of a per mille), whether there is an age,
  * and the age in years, which is 0 where there is none. */
-enum { ROTHC_REPORT_DELTA = 0, ROTHC_REPORT_DATED = 1, ROTHC_REPORT_AGE = 2 };
+enum { ROTHC_REPORT_DELTA = 0, ROTHC_REPORT_KIND = 1, ROTHC_REPORT_AGE = 2 };
 
 /* Whether there is an age: it is the report's; none up to 60,000 does it; or the pool has more
  * modern grams than grams. */
@@ -270,8 +272,9 @@ uint64_t rothc_spin_up(uint64_t *state, size_t state_len, const int64_t *weather
  * Delta is 100,000 x modern / carbon rounded down, less 100,000. Where modern exceeds carbon, the
  * pool is ROTHC_NEWER. Else the age is the smallest whole number of years y, 0 to 60,000, whose
  * survival number for w = y / 8035 is at most 1,000,000,000 x modern / carbon, compared as
- * fractions; where no y does it, the pool is ROTHC_OLDER.
- * state: ROTHC_STATE numbers, which stay. report: ROTHC_REPORT numbers, of any values.
+ * fractions; where no y does it, the pool is ROTHC_OLDER. Delta is written with all three.
+ * state: ROTHC_STATE numbers, which stay. report: ROTHC_REPORT numbers, of any values. Any other
+ * pool returns ROTHC_SHAPE.
  * Refusals: CLAY to CARBON and STATE_BOUNDS for the state, then NO_CARBON. A refusal leaves report
  * as it was. */
 uint64_t rothc_radiocarbon(const uint64_t *state, size_t state_len, uint64_t pool, int64_t *report,

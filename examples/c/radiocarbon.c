@@ -31,11 +31,11 @@ static void print(const char *name, const uint64_t *state, uint64_t pool) {
   wanted("rothc_radiocarbon",
          rothc_radiocarbon(state, ROTHC_STATE, pool, report, ROTHC_REPORT), ROTHC_DONE);
   printf("%s: delta %.2f per mille, ", name, (double)report[ROTHC_REPORT_DELTA] / 100);
-  if (report[ROTHC_REPORT_DATED] == ROTHC_DATED)
+  if (report[ROTHC_REPORT_KIND] == ROTHC_DATED)
     printf("%" PRId64 " years, in which fresh carbon keeps %" PRIu64 " of 1000000000\n",
            report[ROTHC_REPORT_AGE], rothc_age_survival(report[ROTHC_REPORT_AGE]));
   else
-    printf("%s\n", report[ROTHC_REPORT_DATED] == ROTHC_NEWER ? "newer" : "older");
+    printf("%s\n", report[ROTHC_REPORT_KIND] == ROTHC_NEWER ? "newer" : "older");
 }
 
 int main(void) {

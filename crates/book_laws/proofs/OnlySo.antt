@@ -100,7 +100,7 @@ none-fresh : (i : ℕ) → activityOutside (landFrom [] (landWidth * i)) ≡ fal
 unfolding activityOutside landFrom
 none-fresh i = refl
 
--- A row of activity 1000 before such rows.
+-- A row of activity 1000, which 21 passes, before such rows.
 row-fresh : (l : Land) (later : List ℤ) → activityOutside l ≡ false → Fresh later → Fresh (landNumbers l ++ later)
 row-fresh l later own fresh = record { each = at }
   where

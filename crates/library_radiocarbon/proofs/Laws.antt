@@ -1,7 +1,7 @@
 -- Laws of rothc_radiocarbon and rothc_age_survival that their bodies rest on: what a wrong length or pool leaves, and what the report's
 -- answer leaves.
 -- Assumes nothing.
-use mathlib.Core.Path.{_≡_, _∙_, ap}
+use mathlib.Core.Path.{_≡_}
 use mathlib.Core.List.{List}
 use Prim.Native.Nat.{ℕ, _≤_, _<_}
 use borrow.Author.Tests.{le-leb, lt-leb}

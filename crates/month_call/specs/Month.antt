@@ -79,8 +79,8 @@ modernAfter s modern n l =
     (modernGrams (natAbs (l .plant)) (natAbs (l .activity)))
     (modernGrams (natAbs (l .manure)) (natAbs (l .activity)))
 
--- The same three of four survival numbers, a clay number and a month's additions, for the function
--- that is handed these.
+-- Pools, CO2 and modern grams after the month, as above, for a function that is handed the four
+-- survival numbers, the clay number and the additions.
 pub record TurnedOf
     (s : State)
     (survival : List ℕ)

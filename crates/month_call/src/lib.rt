@@ -171,6 +171,7 @@ fn turn_both(s: State, survival: [u64; 4], r: u64, given: Additions) -> TurnedBo
         manure = given.manure;
         turn += 1;
     }
+    // never reached: the second turn returns
     TurnedBoth {
         pools,
         co2: Grams(0),

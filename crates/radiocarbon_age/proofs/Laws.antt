@@ -1,7 +1,7 @@
 -- Laws of ages: the definition, which tries one age after another, gives the smallest that does it, and "older" where none does; and what
 -- each answer says.
 -- Assumes nothing.
-use mathlib.Core.Path.{_≡_, refl, sym, _∙_, ap}
+use mathlib.Core.Path.{_≡_, refl, sym}
 use mathlib.Core.Bool.{Bool, true, false, cond}
 use Prim.Native.Nat.{ℕ, zero, suc, _+_, _*_, _≤_, _<_}
 use native.Mathlib.Nat.{mul-le-mul-right}
@@ -9,7 +9,7 @@ use native.Mathlib.Decide.{decLe}
 use native.Mathlib.Omega.{arith}
 use borrow.Author.Tests.{leb-true, leb-false, ltb-true, ltb-false, le-leb, lt-leb, lt-ltb, le-ltb}
 use lib.Dec.{ltb}
-use Rattle.step_survival.specs.Ages.{ageLimit, ageSurvival, Ages}
+use Rattle.step_survival.specs.Ages.{ageLimit, ageSurvival}
 use Rattle.step_survival.proofs.Ages.{ages}
 use Rattle.radiocarbon_age.specs.declared.Age.{Age}
 use Rattle.radiocarbon_age.specs.declared.Age.the-variants.{Years, Older, Newer}

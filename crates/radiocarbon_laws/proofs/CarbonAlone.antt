@@ -1,8 +1,8 @@
 -- CARBON ALONE: calls and lists without activities are the calls and lists, but for modern grams, up to the first refusal by 21, or by 10
 -- for modern grams. By induction over the calls, and over the months.
 -- Assumes nothing.
-use mathlib.Core.Path.{_≡_, refl, sym, _∙_, ap}
-use mathlib.Core.Bool.{Bool, true, false, not, _&&_, _||_, cond}
+use mathlib.Core.Path.{_≡_, refl, sym, _∙_, ap, subst}
+use mathlib.Core.Bool.{Bool, true, false, not, _&&_, cond}
 use mathlib.Core.List.{List, [], _∷_, _++_}
 use Prim.Native.Nat.{ℕ, zero, suc, _+_}
 use native.Mathlib.Omega.{arith}
@@ -29,8 +29,9 @@ use Rattle.list_run.proofs.Laws.{goes-on, stops}
 use Rattle.list_run.proofs.Months as courses
 use Rattle.list_run.proofs.Months.{Course, course, place-in}
 use Rattle.radiocarbon_laws.specs.Without.{stateWithout, entriesWithout, callWithout, callsWithout, rowsWithout, outcomeWithout, leftWithout}
-use Rattle.radiocarbon_laws.specs.CarbonAlone.{byModern, callByModern, listByModern, answersOf, noneByModern, CallsAlone, ListAlone, CarbonAlone}
+use Rattle.radiocarbon_laws.specs.CarbonAlone.{byModern, callByModern, listByModern, answersOf, upToModern, noneByModern, SameCarbon, CarbonOfCalls, CarbonOfList, CarbonAlone}
 use Rattle.radiocarbon_laws.proofs.Months.{is21, Less, same, end, first-less, bounds-less, month-without, list-month-without}
+use Rattle.radiocarbon_laws.proofs.Months.{others-found, bounds-other, month-never, list-month-never}
 use Rattle.radiocarbon_laws.proofs.Rows.{rows-length, entries-without}
 
 -- ---- single month calls
@@ -42,18 +43,13 @@ both false b h = (refl, h)
 both-back : {a b : Bool} → a ≡ false → b ≡ true → (not a && b) ≡ true
 both-back h h' = rw (h, h')
 
-by-same : (s : State) (answer : Answer) → callByModern (stateWithout s) answer ≡ callByModern s answer
-unfolding carbonBoundsPassed
-by-same s (Done row) = refl
-by-same s (Refused refusal) = refl
-
-calls-alone : (s : State) (calls : List Call) → noneByModern s calls ≡ true → CallsAlone s calls
+same-carbon : (s : State) (calls : List Call) → noneByModern s calls ≡ true → SameCarbon s calls
 unfolding noneByModern callsWithout answersOf runCalls acceptedCalls addedCarbon
-calls-alone s [] h = record { answers = refl; state = refl; accepted = refl; carbon = refl; none = refl }
-calls-alone s (c ∷ calls) h =
+same-carbon s [] h = record { answers = refl; state = refl; accepted = refl; carbon = refl }
+same-carbon s (c ∷ calls) h =
     let parts = both (callByModern s (monthCall s (c .number) (c .entries) .answer)) (noneByModern (stateAfter s c) calls) h in
     let step = month-without s (c .entries) (c .number) (parts .0) in
-    let later = calls-alone (stateAfter s c) calls (parts .1) in
+    let later = same-carbon (stateAfter s c) calls (parts .1) in
     let answer = monthCall s (c .number) (c .entries) .answer in
     let brought = natAbs (c .entries .land .plant) + natAbs (c .entries .land .manure) in
     record {
@@ -67,10 +63,64 @@ calls-alone s (c ∷ calls) h =
       carbon =
           (λ i. cond (isDone (step i .answer)) brought 0 + addedCarbon (step i .state) (callsWithout calls))
           ∙ ap (λ (n : ℕ). cond (isDone answer) brought 0 + n) (later .carbon);
-      none =
-          (λ i. not (callByModern (stateWithout s) (step i .answer)) && noneByModern (step i .state) (callsWithout calls))
-          ∙ both-back (by-same s answer ∙ parts .0) (later .none);
     }
+
+-- Up to the first that is refused so none is, and the list begins with them.
+none-up-to : (s : State) (calls : List Call) → noneByModern s (upToModern s calls) ≡ true
+unfolding noneByModern upToModern
+none-up-to s [] = refl
+none-up-to s (c ∷ calls) =
+    by-test (callByModern s (monthCall s (c .number) (c .entries) .answer)) refl (none-up-to (stateAfter s c) calls)
+  where
+    by-test :
+        (test : Bool) → callByModern s (monthCall s (c .number) (c .entries) .answer) ≡ test
+        → noneByModern (stateAfter s c) (upToModern (stateAfter s c) calls) ≡ true
+        → noneByModern s (cond test [] (c ∷ upToModern (stateAfter s c) calls)) ≡ true
+    by-test true is later = refl
+    by-test false is later = both-back is later
+
+-- What is left of the list.
+abbrev afterIf : Bool → Call → List Call → List Call → List Call
+afterIf true c calls later = c ∷ calls
+afterIf false c calls later = later
+
+afterModern : State → List Call → List Call
+afterModern s [] = []
+afterModern s (c ∷ calls) =
+    afterIf (callByModern s (monthCall s (c .number) (c .entries) .answer)) c calls (afterModern (stateAfter s c) calls)
+
+begins-with : (s : State) (calls : List Call) → calls ≡ upToModern s calls ++ afterModern s calls
+unfolding upToModern afterModern
+begins-with s [] = refl
+begins-with s (c ∷ calls) =
+    by-test (callByModern s (monthCall s (c .number) (c .entries) .answer)) (begins-with (stateAfter s c) calls)
+  where
+    by-test :
+        (test : Bool) → calls ≡ upToModern (stateAfter s c) calls ++ afterModern (stateAfter s c) calls
+        → c ∷ calls
+        ≡ cond test [] (c ∷ upToModern (stateAfter s c) calls) ++ afterIf test c calls (afterModern (stateAfter s c) calls)
+    by-test true later = refl
+    by-test false later = ap (λ (l : List Call). c ∷ l) later
+
+calls-alone : (s : State) (calls : List Call) → CarbonOfCalls s calls
+calls-alone s calls =
+    record {
+      after = afterModern s calls;
+      begins = begins-with s calls;
+      none = none-up-to s calls;
+      same = same-carbon s (upToModern s calls) (none-up-to s calls);
+    }
+
+-- Without activities no call is refused so. The state stays without modern grams.
+never-calls : (s : State) (calls : List Call) → s ≡ stateWithout s → noneByModern s (callsWithout calls) ≡ true
+unfolding noneByModern callsWithout
+never-calls s [] bare = refl
+never-calls s (c ∷ calls) bare =
+    let never = subst (λ (t : State). callByModern t (monthCall t (c .number) (entriesWithout (c .entries)) .answer) ≡ false) (sym bare)
+    (month-never s (c .number) (c .entries)) in
+    let step = month-without s (entriesWithout (c .entries)) (c .number) never in
+    let stays = ap (λ (t : State). monthCall t (c .number) (entriesWithout (c .entries)) .state) bare ∙ ap (λ (o : Outcome). o .state) step in
+    both-back never (never-calls (stateAfter s (callWithout c)) calls stays)
 
 -- ---- months
 
@@ -176,7 +226,7 @@ module _ (s : State) (weather land : List ℤ) (out : List ℕ) where
   has-run Pass refusal before h = refl
   has-run (Refuse reason) refusal before h = absurd (let z : _≡_ {A = ℕ} 0 (suc before) = cc in omega arith)
 
-  list-alone : ListAlone s weather land out
+  list-alone : CarbonOfList s weather land out
   unfolding run
   list-alone =
       record {
@@ -199,5 +249,40 @@ module _ (s : State) (weather land : List ℤ) (out : List ℕ) where
             (sym ran);
       }
 
+-- ---- without activities
+
+-- A list's months are never refused so, ..
+months-never :
+    (s : State) (weather land : List ℤ) {left j : ℕ} {t : State} {out : List ℕ} {end : Left}
+    → Course weather (rowsWithout land) left j t out end → listByModern s (end .outcome .answer) ≡ false
+months-never s weather land courses.finished = refl
+months-never s weather land (courses.refused {left} {j} {s = t} refusal e) =
+    list-month-never s t (entriesAt weather land j) refusal (rw (entries-without weather land j) at e)
+months-never s weather land (courses.month row e later) = months-never s weather land later
+
+-- .. and neither is the list before them.
+never-list :
+    (s : State) (weather land : List ℤ) (out : List ℕ)
+    → listByModern (stateWithout s) (run (stateWithout s) weather (rowsWithout land) out .outcome .answer) ≡ false
+unfolding run beforeMonths rowsAsked soilAsked roomAsked boundsAsked
+never-list s weather land out =
+    by-check (firstOf (beforeMonths (stateWithout s) weather (rowsWithout land) (length out)))
+    (others-found (stateWithout s) (beforeMonths (stateWithout s) weather (rowsWithout land) (length out)) (rw (bounds-other s)))
+  where
+    by-check :
+        (check : Check) → ((r : Refusal) → check ≡ Refuse r → byModern (stateWithout s) r ≡ false)
+        → listByModern (stateWithout s)
+        (listChecked check (stateWithout s) out (months (landRows (rowsWithout land)) weather (rowsWithout land) 0 (stateWithout s) out) .outcome .answer)
+        ≡ false
+    by-check Pass h =
+        months-never (stateWithout s) weather land (course weather (rowsWithout land) (landRows (rowsWithout land)) 0 (stateWithout s) out)
+    by-check (Refuse refusal) h = h refusal refl
+
 pub carbon-alone : CarbonAlone
-carbon-alone = record { calls = calls-alone; lists = list-alone }
+carbon-alone =
+    record {
+      calls = calls-alone;
+      lists = list-alone;
+      never = λ s calls. never-calls (stateWithout s) calls refl;
+      never-in-lists = never-list;
+    }

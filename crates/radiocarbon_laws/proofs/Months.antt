@@ -4,7 +4,7 @@
 use mathlib.Core.Path.{_≡_, refl, sym, _∙_, ap}
 use mathlib.Core.Bool.{Bool, true, false, not, _||_}
 use mathlib.Core.List.{List, [], _∷_}
-use Prim.Native.Nat.{ℕ, _+_}
+use Prim.Native.Nat.{ℕ}
 use native.Mathlib.Omega.{arith}
 use borrow.Author.Tests.{le-ltb}
 use lib.Dec.{eqb}
@@ -24,8 +24,8 @@ use Rattle.month_refusals.specs.Refusals.{modernBound, carbonBoundsPassed, mode
 use Rattle.month_refusals.specs.Refusals.{coverOutside, additionsOutside, activityOutside, ceilingPassed}
 use Rattle.month_refusals.specs.Refusals.{soilAsked, boundsAsked, stateAsked, turnAsked, weatherAsked, landAsked, carbonAsked, entriesAsked, monthAsked}
 use Rattle.month_refusals.specs.Refusals.{entriesCheck, monthCheck}
+use Rattle.month_refusals.proofs.First.{allOwn, finds-own}
 use Rattle.month_call.specs.declared.Answer.the-variants.{Refused}
-use Rattle.month_call.specs.declared.Outcome.{Outcome}
 use Rattle.month_call.specs.Month.{deficitAfter, rateAfter, poolsAfter, gasOf, modernAfter, nextDeficit, nextRate, movedTo, rowOf, outcomeOf, monthCall, listMonth}
 use Rattle.radiocarbon_laws.specs.Without.{noGrams, stateWithout, entriesWithout, outcomeWithout}
 use Rattle.radiocarbon_laws.specs.CarbonAlone.{byModern, callByModern}
@@ -88,7 +88,7 @@ module _ (s : State) where
   unfolding modernAbove total
   none-above = le-ltb (modernBound (s .months)) 0 (omega arith)
 
-  bounds-are : boundsPassed (stateWithout s) ≡ carbonBoundsPassed s
+  pub bounds-are : boundsPassed (stateWithout s) ≡ carbonBoundsPassed s
   unfolding boundsPassed carbonBoundsPassed
   bounds-are = rw none-above (either-same _)
 
@@ -171,3 +171,58 @@ module _ (s : State) where
     list-month-without h =
         let same = first-less is21 (entries-less refl) (found-refused is21 (entriesCheck s e) h) in
         ap (λ (check : Check). outcomeOf check (stateWithout s) (entriesWithout e)) same ∙ outcome-same (entriesCheck s e)
+
+-- ---- without activities none of these refusals is given
+
+not-true : (x : Bool) → not x ≡ true → x ≡ false
+not-true true h = sym h
+not-true false h = refl
+
+-- What is asked is no refusal of these, or does not apply.
+abbrev pub OthersAsked : State → List Asked → Type 0
+OthersAsked s asked = allOwn (λ r. not (byModern s r)) asked ≡ true
+
+pub others-found : (s : State) (asked : List Asked) → OthersAsked s asked → (r : Refusal) → firstOf asked ≡ Refuse r → byModern s r ≡ false
+others-found s asked others r h = not-true (byModern s r) (finds-own (λ r. not (byModern s r)) asked others h)
+
+entries-others : (s t : State) (e : Entries) → OthersAsked s (entriesAsked t (entriesWithout e))
+unfolding entriesAsked weatherAsked carbonAsked landAsked activityOutside
+entries-others s t e = refl
+
+-- 10 applies for carbon alone.
+either-way : (passed other : Bool) → other ≡ passed → (not (not passed) || not other) ≡ true
+either-way true other h = refl
+either-way false other h = rw h
+
+pub bounds-other : (s : State) → (not (byModern (stateWithout s) Bounds) || not (boundsPassed (stateWithout s))) ≡ true
+unfolding carbonBoundsPassed
+bounds-other s = either-way (carbonBoundsPassed s) (boundsPassed (stateWithout s)) (bounds-are s)
+
+module _ (s : State) where
+  month-others : (number : ℕ) (e : Entries) → OthersAsked (stateWithout s) (monthAsked (stateWithout s) number (entriesWithout e))
+  unfolding monthAsked stateAsked soilAsked boundsAsked turnAsked
+  month-others number e = rw (bounds-other s, entries-others (stateWithout s) (stateWithout s) e)
+
+  pub month-never :
+      (number : ℕ) (e : Entries) → callByModern (stateWithout s) (monthCall (stateWithout s) number (entriesWithout e) .answer) ≡ false
+  unfolding monthCall outcomeOf
+  month-never number e =
+      by-check (monthCheck (stateWithout s) number (entriesWithout e))
+      (others-found (stateWithout s) (monthAsked (stateWithout s) number (entriesWithout e)) (month-others number e))
+    where
+      by-check :
+          (check : Check) → ((r : Refusal) → check ≡ Refuse r → byModern (stateWithout s) r ≡ false)
+          → callByModern (stateWithout s) (outcomeOf check (stateWithout s) (entriesWithout e) .answer) ≡ false
+      by-check Pass h = refl
+      by-check (Refuse refusal) h = h refusal refl
+
+-- A month that is refused in a list.
+pub list-month-never :
+    (s t : State) (e : Entries) (r : Refusal) → listMonth t (entriesWithout e) .answer ≡ Refused r → byModern s r ≡ false
+unfolding listMonth outcomeOf
+list-month-never s t e r h =
+    others-found s (entriesAsked t (entriesWithout e)) (entries-others s t e) r (by-check (entriesCheck t (entriesWithout e)) h)
+  where
+    by-check : (check : Check) → outcomeOf check t (entriesWithout e) .answer ≡ Refused r → check ≡ Refuse r
+    by-check Pass h = absurd (let z : _≡_ {A = ℕ} 0 1 = cc in omega arith)
+    by-check (Refuse reason) h = cc

@@ -2,14 +2,14 @@
 -- Assumes nothing.
 use mathlib.Core.Path.{_≡_, refl}
 use mathlib.Core.List.{List}
-use Prim.Native.Nat.{ℕ, _+_, _-_, _*_, _/_}
+use Prim.Native.Nat.{ℕ}
 use native.Mathlib.Nat.{zero-mul, mul-zero, zero-div}
 use native.Mathlib.Omega.{arith}
 use lib.ListN.{getD}
 use Rattle.step_pools.specs.Pools.{share, total}
 use Rattle.step_pools.proofs.Laws.{four-grams}
-use Rattle.step_decay.specs.Decay.{kept, lost, losses, formed, toBio, decayed}
-use Rattle.step_additions.specs.Additions.{plantToDpm, manureToDpm, manureToHum, added}
+use Rattle.step_decay.specs.Decay.{losses, formed, decayed}
+use Rattle.step_additions.specs.Additions.{added}
 use Rattle.step_additions.proofs.Laws.{plant-le}
 use Rattle.step_turnover.specs.Turnover.{turnedOver}
 use Rattle.step_modern.specs.Modern.{modernGrams, aged}

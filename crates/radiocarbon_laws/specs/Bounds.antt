@@ -1,6 +1,6 @@
 -- A state that 4 to 7 and 10 accept is never refused by them afterwards, 10 for its modern grams
--- among them (change 2026-04 of document 02): whatever single month calls it goes through, and
--- whatever list of months.
+-- among them (change 2026-04 of document 02): whatever single month calls and
+-- whatever list of months it goes through.
 use mathlib.Core.Path.{_≡_}
 use mathlib.Core.List.{List}
 use Prim.Native.Nat.{ℕ}

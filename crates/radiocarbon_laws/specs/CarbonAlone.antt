@@ -2,8 +2,8 @@
 -- those of the same list without activities" (change 2026-04 of document 02): modern grams never
 -- touch carbon.
 use mathlib.Core.Path.{_≡_}
-use mathlib.Core.Bool.{Bool, true, false, not, _&&_, _||_}
-use mathlib.Core.List.{List, [], _∷_}
+use mathlib.Core.Bool.{Bool, true, false, not, cond, _&&_, _||_}
+use mathlib.Core.List.{List, [], _∷_, _++_}
 use Prim.Native.Nat.{ℕ, suc}
 use lib.Dec.{eqb}
 use lib.IntN.{ℤ}
@@ -44,25 +44,39 @@ answersOf s [] = []
 answersOf s (c ∷ calls) =
     monthCall s (c .number) (c .entries) .answer ∷ answersOf (stateAfter s c) calls
 
--- None of the calls is refused so: the list is one "up to the first refusal".
+-- The calls up to the first that is refused so, that one left out.
+unfoldable pub upToModern : State → List Call → List Call
+upToModern s [] = []
+upToModern s (c ∷ calls) =
+    cond (callByModern s (monthCall s (c .number) (c .entries) .answer)) []
+    (c ∷ upToModern (stateAfter s c) calls)
+
+-- None of the calls is refused so.
 unfoldable pub noneByModern : State → List Call → Bool
 noneByModern s [] = true
 noneByModern s (c ∷ calls) =
     not (callByModern s (monthCall s (c .number) (c .entries) .answer))
     && noneByModern (stateAfter s c) calls
 
--- Then the rows and refusals, the state but for its modern grams, and both sides of the balance are
--- those of the calls without activities, and none of these is refused so.
-pub record CallsAlone (s : State) (calls : List Call) : Type 0 where
+-- The rows and refusals, the state but for its modern grams, and what the balance is made of are
+-- those of the calls without activities.
+pub record SameCarbon (s : State) (calls : List Call) : Type 0 where
   pub answers : answersOf (stateWithout s) (callsWithout calls) ≡ answersOf s calls
   pub state : runCalls (stateWithout s) (callsWithout calls) ≡ stateWithout (runCalls s calls)
   pub accepted : acceptedCalls (stateWithout s) (callsWithout calls) ≡ acceptedCalls s calls
   pub carbon : addedCarbon (stateWithout s) (callsWithout calls) ≡ addedCarbon s calls
-  pub none : noneByModern (stateWithout s) (callsWithout calls) ≡ true
+
+-- "Up to the first refusal": the list begins with its calls up to there, of which none is refused
+-- so, and these have the same carbon.
+pub record CarbonOfCalls (s : State) (calls : List Call) : Type 0 where
+  pub after : List Call
+  pub begins : calls ≡ upToModern s calls ++ after
+  pub none : noneByModern s (upToModern s calls) ≡ true
+  pub same : SameCarbon s (upToModern s calls)
 
 -- ---- lists of months
 
-pub record ListAlone (s : State) (weather land : List ℤ) (out : List ℕ) : Type 0 where
+pub record CarbonOfList (s : State) (weather land : List ℤ) (out : List ℕ) : Type 0 where
   -- A list that is not refused so answers, writes and leaves what the list without activities does.
   pub whole :
       listByModern s (run s weather land out .outcome .answer) ≡ false
@@ -84,7 +98,14 @@ pub record ListAlone (s : State) (weather land : List ℤ) (out : List ℕ) : Ty
 -- ---- the claim
 
 pub record CarbonAlone : Type 0 where
-  pub calls :
-      (s : State) (calls : List Call) → noneByModern s calls ≡ true → CallsAlone s calls
+  pub calls : (s : State) (calls : List Call) → CarbonOfCalls s calls
   pub lists :
-      (s : State) (weather land : List ℤ) (out : List ℕ) → ListAlone s weather land out
+      (s : State) (weather land : List ℤ) (out : List ℕ) → CarbonOfList s weather land out
+  -- Without activities there is no such refusal: the whole list is the one that is compared with.
+  pub never :
+      (s : State) (calls : List Call) → noneByModern (stateWithout s) (callsWithout calls) ≡ true
+  pub never-in-lists :
+      (s : State) (weather land : List ℤ) (out : List ℕ)
+      → listByModern (stateWithout s)
+      (run (stateWithout s) weather (rowsWithout land) out .outcome .answer)
+      ≡ false

@@ -3,7 +3,7 @@
 use mathlib.Core.Path.{_≡_, refl, sym, _∙_, ap}
 use mathlib.Core.Bool.{true}
 use mathlib.Core.List.{[], _∷_}
-use Prim.Native.Nat.{ℕ, _+_, _≤_, _^_}
+use Prim.Native.Nat.{ℕ, _≤_, _^_}
 use native.Mathlib.Omega.{arith}
 use borrow.Author.Tests.{ne-eqb}
 use lib.Dec.{eqb, lit≤}
@@ -19,7 +19,6 @@ use Rattle.month_refusals.specs.Asked.{_if_, at, found, told, numberAndPlace, f
 use Rattle.month_refusals.specs.Refusals.{soilAsked, boundsAsked, stateAsked, stateCheck}
 use Rattle.month_refusals.proofs.First.{foundAt, found-at, exactly, first-append}
 use Rattle.month_refusals.proofs.Accepted.{Sound, sound-state}
-use Rattle.radiocarbon_age.specs.declared.Age.{Age}
 use Rattle.radiocarbon_age.specs.Age.{ageOf}
 use Rattle.radiocarbon_age.proofs.Laws.{age-means}
 use Rattle.radiocarbon_report.specs.declared.Subject.{Subject}

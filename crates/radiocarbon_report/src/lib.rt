@@ -4,7 +4,7 @@ ghost use mathlib.Core.Path.{_≡_};
 ghost use mathlib.Core.Bool.{true};
 ghost use Prim.Native.Nat.{_≤_, _<_, _^_};
 ghost use Rattle.month_refusals.specs.declared.Check.the-variants.{Pass};
-ghost use Rattle.month_refusals.specs.Asked.{at, told, Exactly, Finds, checkingOrder, partOf};
+ghost use Rattle.month_refusals.specs.Asked.{at, told, Exactly, checkingOrder, partOf};
 ghost use Rattle.month_refusals.specs.Refusals.{stateCheck};
 ghost use Rattle.radiocarbon_report.specs.Report.{carbonOf, modernOf, delta, reportAsked};
 ghost use Rattle.radiocarbon_report.specs.Report.{reportOn, report, reportFound, reportTold};

@@ -2,8 +2,8 @@
 -- value; from a year to the next the value falls by more than a part in 8,036, and it never is below 1/6561, so that it falls by
 -- more than 18 and the numbers with it.
 -- Assumes nothing.
-use mathlib.Core.Path.{_≡_, refl, sym, ap, subst}
-use Prim.Native.Nat.{ℕ, zero, suc, _+_, _-_, _*_, _≤_, _<_}
+use mathlib.Core.Path.{_≡_, refl, subst}
+use Prim.Native.Nat.{ℕ, zero, suc, _+_, _-_, _*_, _≤_}
 use native.Mathlib.Nat.{mul-one, add-zero, add-suc}
 use native.Mathlib.Numerals.{add-one}
 use native.Mathlib.Omega.{arith}
@@ -11,7 +11,6 @@ use lib.Dec.{lit<, lit≤}
 use Rattle.number_exact.specs.Exponential.{agreeing, opposing, denominator, AtOrBelow, AtOrAbove, AtMostFrom}
 use Rattle.number_exact.proofs.Laws.{below-by-sum, above-by-sum, below-product, above-product}
 use Rattle.number_exact.proofs.Order.{below-above}
-use Rattle.step_survival.specs.Survival.{survivalOf}
 use Rattle.step_survival.specs.Ages.{ageLimit, ageSurvival, Ages}
 use Rattle.step_survival.proofs.Laws.{close-one, in-range, at-zero}
 

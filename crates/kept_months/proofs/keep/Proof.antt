@@ -1,4 +1,4 @@
--- `kept_months::keep` meets its contract: the eleven numbers, in the part of the memory that begins at its place.
+-- `kept_months::keep` meets its contract: the fifteen numbers, in the part of the memory that begins at its place.
 -- Assumes nothing.
 use borrow.Author.Needs.{needs}
 use Rattle.kept_months.proofs.Laws.{kept-in-part}

@@ -1,4 +1,4 @@
--- `kept_months::latest` meets its contract: eleven numbers of the part that begins at the place before.
+-- `kept_months::latest` meets its contract: fifteen numbers of the part that begins at the place before.
 -- Assumes nothing.
 use borrow.Author.Needs.{needs}
 use Rattle.kept_months.proofs.Laws.{latest-in-part}

@@ -1,7 +1,7 @@
 -- `month_call::run_steps` meets its contract: what each call ensures is the definition's step.
 -- Assumes nothing.
 use mathlib.Core.Path.{_≡_, _∙_, ap}
-use Prim.Native.Nat.{ℕ, _+_}
+use Prim.Native.Nat.{ℕ}
 use native.Mathlib.Omega.{arith}
 use borrow.Author.Needs.{needs}
 use Rattle.step_decay.specs.Rates.{survivals}

@@ -1,4 +1,4 @@
--- `month_checks::check_carbon` meets its contract: 15 and 16, then 17.
+-- `month_checks::check_carbon` meets its contract: 15, 16 and 21, then 17.
 -- Assumes nothing.
 use borrow.Author.Needs.{needs}
 use mathlib.Core.Path.{_≡_, sym, _∙_}

@@ -1,4 +1,4 @@
--- `month_checks::check_entries` meets its contract: 12, the weather, then 15 to 17.
+-- `month_checks::check_entries` meets its contract: 12, the weather, then 15, 16, 21 and 17.
 -- Assumes nothing.
 use borrow.Author.Needs.{needs}
 use mathlib.Core.Path.{_≡_, sym, _∙_}

@@ -6,7 +6,6 @@ use native.Mathlib.Nat.{mul-le-mul}
 use native.Mathlib.Omega.{arith}
 use lib.Dec.{leb}
 use borrow.Author.Needs.{needs}
-use Rattle.step_survival.specs.Ages.{ageSurvival}
 use Rattle.radiocarbon_age.proofs.does.Statement.{statement}
 use Rattle.radiocarbon_age.proofs.does.Tie as tie
 

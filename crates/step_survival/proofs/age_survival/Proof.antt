@@ -1,12 +1,12 @@
 -- `step_survival::age_survival` meets its contract: the parts of w are those of the definition, with the rate 1.
 -- Assumes nothing.
 use mathlib.Core.Path.{_≡_, sym, _∙_, ap}
-use Prim.Native.Nat.{ℕ, _*_, _/_, _^_, _≤_, _<_}
+use Prim.Native.Nat.{ℕ, _*_, _/_}
 use native.Mathlib.Nat.{mul-one}
 use native.Mathlib.Omega.{arith}
 use lib.Dec.{lit<, lit≤}
 use Rattle.step_survival.specs.Survival.{ratio, parts, survivalAt, survivalOf}
-use Rattle.step_survival.specs.Ages.{ageLimit, ageSurvival}
+use Rattle.step_survival.specs.Ages.{ageSurvival}
 use Rattle.step_survival.proofs.Laws.{parts-fit}
 use Rattle.step_survival.proofs.Ages.{ages}
 use Rattle.step_survival.proofs.age_survival.Statement.{statement}
