@@ -109,8 +109,8 @@ enum {
  * write them, and only rothc_take_back reads them, so that they need not be set before rothc_start.
  * The 376 numbers can be copied, saved and lent again as they are. A state saved before change
  * 2026-04 has 276 and is refused as ROTHC_SHAPE. Of it only index 0 to 10 can be copied (its index
- * 11 was the kept count). Set the modern grams: to the pools' grams for pools of activity 1000, to 0
- * where no one will ask for radiocarbon; and the kept count to 0, since with another count
+ * 11 was the kept count). Set the modern grams: to the pools' grams for pools of activity 1000, or
+ * to 0 where no one will ask for radiocarbon; and the kept count to 0, since with another count
  * rothc_take_back restores whatever stands in the place. For the same reason let only the library
  * change the months done and the kept count. */
 enum {

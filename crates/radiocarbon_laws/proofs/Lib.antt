@@ -1,5 +1,10 @@
+pub mod Along
 pub mod Nothing
 pub mod Months
+pub mod Calls
+pub mod Fields
 pub mod Rows
+pub mod Lists
+pub mod Spins
 pub mod CarbonAlone
 pub mod Bounds

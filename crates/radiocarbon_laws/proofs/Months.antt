@@ -28,7 +28,7 @@ use Rattle.month_refusals.proofs.First.{allOwn, finds-own}
 use Rattle.month_call.specs.declared.Answer.the-variants.{Refused}
 use Rattle.month_call.specs.Month.{deficitAfter, rateAfter, poolsAfter, gasOf, modernAfter, nextDeficit, nextRate, movedTo, rowOf, outcomeOf, monthCall, listMonth}
 use Rattle.radiocarbon_laws.specs.Without.{noGrams, stateWithout, entriesWithout, outcomeWithout}
-use Rattle.radiocarbon_laws.specs.CarbonAlone.{byModern, callByModern}
+use Rattle.radiocarbon_laws.specs.Calls.{byModern, answerByModern}
 use Rattle.radiocarbon_laws.proofs.Nothing.{none-brought, none-aged, none-turned}
 
 -- ---- what is asked
@@ -155,11 +155,11 @@ module _ (s : State) where
     found-refused left-out (Refuse refusal) h r is = let same : refusal ≡ r = cc in h r (ap Refused same)
 
     pub month-without :
-        (number : ℕ) → callByModern s (monthCall s number e .answer) ≡ false
+        (number : ℕ) → answerByModern s (monthCall s number e .answer) ≡ false
         → monthCall (stateWithout s) number (entriesWithout e) ≡ outcomeWithout (monthCall s number e)
     unfolding monthCall
     month-without number h =
-        let other = found-refused (byModern s) (monthCheck s number e) (λ r is. sym (ap (callByModern s) is) ∙ h) in
+        let other = found-refused (byModern s) (monthCheck s number e) (λ r is. sym (ap (answerByModern s) is) ∙ h) in
         let same = first-less (byModern s) (month-less number) other in
         ap (λ (check : Check). outcomeOf check (stateWithout s) (entriesWithout e)) same ∙ outcome-same (monthCheck s number e)
 
@@ -204,7 +204,7 @@ module _ (s : State) where
   month-others number e = rw (bounds-other s, entries-others (stateWithout s) (stateWithout s) e)
 
   pub month-never :
-      (number : ℕ) (e : Entries) → callByModern (stateWithout s) (monthCall (stateWithout s) number (entriesWithout e) .answer) ≡ false
+      (number : ℕ) (e : Entries) → answerByModern (stateWithout s) (monthCall (stateWithout s) number (entriesWithout e) .answer) ≡ false
   unfolding monthCall outcomeOf
   month-never number e =
       by-check (monthCheck (stateWithout s) number (entriesWithout e))
@@ -212,7 +212,7 @@ module _ (s : State) where
     where
       by-check :
           (check : Check) → ((r : Refusal) → check ≡ Refuse r → byModern (stateWithout s) r ≡ false)
-          → callByModern (stateWithout s) (outcomeOf check (stateWithout s) (entriesWithout e) .answer) ≡ false
+          → answerByModern (stateWithout s) (outcomeOf check (stateWithout s) (entriesWithout e) .answer) ≡ false
       by-check Pass h = refl
       by-check (Refuse refusal) h = h refusal refl
 

@@ -1,5 +1,5 @@
--- Calls and lists "without activities" (change 2026-04 of document 02): no modern grams in the state,
--- and 0 for the activity of every row. What is left is carbon alone.
+-- Calls and lists "without activities" (change 2026-04 of document 02): no modern grams in the
+-- state, and 0 for the activity of every row. What is left is carbon alone.
 use mathlib.Core.List.{List, [], _∷_}
 use Prim.Native.Nat.{ℕ, zero, suc}
 use lib.IntN.{ℤ, pos}

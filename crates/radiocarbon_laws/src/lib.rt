@@ -1,3 +1,4 @@
-// Laws of radiocarbon, change 2026-04 of document 02; no code. specs/CarbonAlone.antt and
-// proofs/CarbonAlone.antt: modern grams never touch carbon. specs/Bounds.antt and
-// proofs/Bounds.antt: 10 never refuses an accepted state afterwards.
+// Laws of radiocarbon, change 2026-04 of document 02; no code. CarbonAlone.antt (specs and proofs):
+// modern grams never touch carbon, in single month calls (Calls.antt), with takings-back among them
+// (Fields.antt), in lists (Lists.antt) and in spin-ups (Spins.antt). Bounds.antt: 10 never refuses
+// an accepted state afterwards.
