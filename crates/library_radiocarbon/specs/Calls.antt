@@ -1,5 +1,5 @@
--- What rothc_radiocarbon and rothc_age_survival return and leave in lent memory. A state is lent as a
--- field: the current one, and after it the memory of the kept ones. It is read and stays.
+-- What rothc_radiocarbon and rothc_age_survival return and leave in lent memory. A state is lent as
+-- a field: the current one, and after it the memory of the kept ones. It is read and stays.
 use mathlib.Core.Bool.{cond, _&&_}
 use mathlib.Core.List.{List, [], _∷_}
 use Prim.Native.Nat.{ℕ}
@@ -37,8 +37,8 @@ pub record ReportLeft : Type 0 where
   pub number : ℕ
   pub report : List ℤ
 
--- Delta, whether there is an age (0), none up to 60,000 (1) or more modern grams than grams (2), and
--- the age, which is 0 where there is none.
+-- Delta, whether there is an age (0), none up to 60,000 (1) or more modern grams than grams (2),
+-- and the age, which is 0 where there is none.
 abbrev pub reportNumbers : ℤ → Age → List ℤ
 reportNumbers delta (Years y) = delta ∷ pos 0 ∷ pos y ∷ []
 reportNumbers delta Older = delta ∷ pos 1 ∷ pos 0 ∷ []

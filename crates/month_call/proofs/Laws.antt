@@ -9,7 +9,7 @@ use lib.ListN.{length}
 use Rattle.step_decay.specs.Rates.{survivals}
 use Rattle.step_pools.specs.Pools.{total}
 use Rattle.step_decay.specs.Decay.{Survivals}
-use Rattle.step_turnover.proofs.Laws.{turned-length}
+use Rattle.step_turnover.proofs.Laws.{turned-length, modern-turned-length}
 use Rattle.month_state.specs.declared.Soil.{Soil}
 use Rattle.month_state.specs.declared.State.{State}
 use Rattle.month_state.specs.declared.Entries.{Entries}
@@ -151,7 +151,7 @@ module _ (s : State) (e : Entries) (h : Sound s) (r : Ready s e) where
 
   four : (length (nextState s e .soil .pools) ≡ 4) × (length (nextState s e .modern) ≡ 4)
   unfolding movedTo poolsAfter modernAfter
-  four = (turned-length _ _ _ _ _ _, turned-length _ _ _ _ _ _)
+  four = (turned-length _ _ _ _ _ _, modern-turned-length _ _ _ _ _ _ _)
 
   pub moved : Moved s e (nextState s e)
   unfolding movedTo

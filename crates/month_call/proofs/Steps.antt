@@ -20,9 +20,7 @@ use Rattle.step_survival.proofs.Laws.{is-survival}
 use Rattle.step_decay.specs.Rates.{survivals}
 use Rattle.step_pools.specs.Pools.{total}
 use Rattle.step_decay.specs.Decay.{Survivals}
-use Rattle.step_turnover.proofs.Laws.{turned-balance, turned-most}
-use Rattle.step_modern.specs.Modern.{modernGrams, aged}
-use Rattle.step_modern.proofs.Laws.{modern-most, aged-most}
+use Rattle.step_turnover.proofs.Laws.{turned-balance, modern-turned-most}
 use Rattle.month_state.specs.declared.Soil.{Soil}
 use Rattle.month_state.specs.declared.State.{State}
 use Rattle.month_state.specs.declared.Land.{Land}
@@ -99,16 +97,13 @@ pub modern-after-most :
     → total (modernAfter s modern n l) ≤ total modern + 400000000
 unfolding modernAfter
 modern-after-most s modern n l h m ready =
-    let activity = natural-most 2000 (l .activity) (ready .activity) in
     omega (
       arith,
-      turned-most (aged modern) (survivals n) (clayNumber (s .clay)) (s .kind)
-          (modernGrams (natAbs (l .plant)) (natAbs (l .activity))) (modernGrams (natAbs (l .manure)) (natAbs (l .activity)))
+      modern-turned-most modern (survivals n) (clayNumber (s .clay)) (s .kind)
+          (natAbs (l .plant)) (natAbs (l .manure)) (natAbs (l .activity))
           (survivals-in-range n m)
-          (omega (arith, clay-number-most (s .clay) (h .clay))),
-      aged-most modern,
-      modern-most (natAbs (l .plant)) activity,
-      modern-most (natAbs (l .manure)) activity,
+          (omega (arith, clay-number-most (s .clay) (h .clay)))
+          (natural-most 2000 (l .activity) (ready .activity)),
       natural-most 100000000 (l .plant) (ready .plant),
       natural-most 100000000 (l .manure) (ready .manure),
     )

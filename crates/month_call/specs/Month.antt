@@ -12,8 +12,7 @@ use Rattle.step_water.specs.Water.{maxDeficit, newDeficit, moistureFactor}
 use Rattle.step_survival.specs.Survival.{rateNumber}
 use Rattle.step_decay.specs.Rates.{survivals}
 use Rattle.step_pools.specs.Pools.{grams, gramsAt}
-use Rattle.step_turnover.specs.Turnover.{turnedOver, released}
-use Rattle.step_modern.specs.Modern.{modernGrams, aged}
+use Rattle.step_turnover.specs.Turnover.{turnedOver, released, modernTurned}
 use Rattle.month_state.specs.declared.Soil.{Soil}
 use Rattle.month_state.specs.declared.State.{State}
 use Rattle.month_state.specs.declared.Weather.{Weather}
@@ -29,8 +28,6 @@ use Rattle.month_refusals.specs.Refusals.{stateCheck, entriesCheck, monthCheck}
 use Rattle.month_call.specs.declared.Answer.{Answer}
 use Rattle.month_call.specs.declared.Answer.the-variants.{Done, Refused}
 use Rattle.month_call.specs.declared.Outcome.{Outcome}
-use Rattle.month_call.specs.declared.Additions.{Additions}
-use Rattle.month_call.specs.declared.TurnedBoth.{TurnedBoth}
 use Rattle.month_call.specs.declared.AfterSteps.{AfterSteps}
 
 -- ---- the steps
@@ -70,33 +67,12 @@ poolsAfter s n l =
 unfoldable pub gasOf : Soil → ℕ → ℕ
 gasOf s n = released (s .pools) (survivals n) (clayNumber (s .clay))
 
--- The modern grams after a month of rate number n (change 2026-04): first the radioactive loss,
--- then the same two steps, with the carbon's survival numbers, clay number and kind, and with what
--- plant and manure bring by their activity, each rounded down.
+-- The modern grams after a month of rate number n (change 2026-04): with the carbon's survival
+-- numbers, clay number and kind, and with the activity of plant carbon and manure.
 unfoldable pub modernAfter : Soil → List Grams → ℕ → Land → List Grams
 modernAfter s modern n l =
-    turnedOver (aged modern) (survivals n) (clayNumber (s .clay)) (s .kind)
-    (modernGrams (natAbs (l .plant)) (natAbs (l .activity)))
-    (modernGrams (natAbs (l .manure)) (natAbs (l .activity)))
-
--- Pools, CO2 and modern grams after the month, as above, for a function that is handed the four
--- survival numbers, the clay number and the additions.
-pub record TurnedOf
-    (s : State)
-    (survival : List ℕ)
-    (r : ℕ)
-    (given : Additions)
-    (turned : TurnedBoth)
-    : Type 0 where
-  pub pools :
-      turned .pools
-      ≡ turnedOver (s .soil .pools) survival r (s .soil .kind) (given .plant .0) (given .manure .0)
-  pub co2 : turned .co2 .0 ≡ released (s .soil .pools) survival r
-  pub modern :
-      turned .modern
-      ≡ turnedOver (aged (s .modern)) survival r (s .soil .kind)
-      (modernGrams (given .plant .0) (given .activity))
-      (modernGrams (given .manure .0) (given .activity))
+    modernTurned modern (survivals n) (clayNumber (s .clay)) (s .kind)
+    (natAbs (l .plant)) (natAbs (l .manure)) (natAbs (l .activity))
 
 -- ---- the month
 

@@ -3,15 +3,14 @@
 ghost use mathlib.Core.Path.{_≡_};
 ghost use Prim.Native.Nat.{_+_, _≤_, _<_, _^_};
 ghost use lib.IntN.{natAbs};
-ghost use Rattle.step_decay.specs.Decay.{Survivals};
 ghost use Rattle.month_state.specs.declared.Entries.{Entries};
 ghost use Rattle.month_refusals.specs.declared.Check.the-variants.{Pass};
 ghost use Rattle.month_refusals.specs.Asked.{at, told};
 ghost use Rattle.month_refusals.specs.Refusals.{monthAsked, stateCheck, weatherCheck, landCheck};
 ghost use Rattle.month_call.specs.declared.Answer.the-variants.{Refused};
 ghost use Rattle.month_call.specs.Month.{crop, potential, largestDeficit, nextDeficit};
-ghost use Rattle.month_call.specs.Month.{rateAfter, TurnedOf, Accepted, stepsOf, outcomeOf};
-ghost use Rattle.month_call.specs.Month.{monthCall, listMonth, answerTold};
+ghost use Rattle.month_call.specs.Month.{rateAfter, Accepted, stepsOf, outcomeOf, monthCall};
+ghost use Rattle.month_call.specs.Month.{listMonth, answerTold};
 use month_checks::check_entries;
 use month_checks::check_month;
 use month_refusals::Check;
@@ -29,10 +28,9 @@ use number_units::Parts;
 use step_decay::survivals;
 use step_factors::clay_number;
 use step_factors::temperature_factor;
-use step_modern::aged;
-use step_modern::modern_grams;
 use step_survival::rate_number;
-use step_turnover::turn_over;
+use step_turnover::Additions;
+use step_turnover::turn_both;
 use step_water::max_deficit;
 use step_water::moisture_factor;
 use step_water::new_deficit;
@@ -55,20 +53,6 @@ struct AfterSteps {
     pools: [Grams; 4],
     co2: Grams,
     deficit: Parts,
-    modern: [Grams; 4],
-}
-
-// A month's additions and their activity in thousandths.
-struct Additions {
-    plant: Grams,
-    manure: Grams,
-    activity: u64,
-}
-
-// What steps 5 and 6 give: the pools after the month, its CO2, and the modern grams after it.
-struct TurnedBoth {
-    pools: [Grams; 4],
-    co2: Grams,
     modern: [Grams; 4],
 }
 
@@ -135,50 +119,6 @@ fn additions_of(l: Land) -> Additions
     }
 }
 
-// Steps 5 and 6 twice, for the modern grams, a month older and with what the additions bring by
-// their activity, and then for the carbon: with the same survival numbers and the same R. One call
-// in a loop stands for both, so that the compiler can put the function in its place; in two calls
-// all pools went through memory.
-fn turn_both(s: State, survival: [u64; 4], r: u64, given: Additions) -> TurnedBoth
-    requires steps { ⌜ (stateCheck s ≡ Pass) × Survivals survival × (r ≤ 1000000) ⌝ }
-    requires grams { ⌜ (given .plant .0 ≤ 100000000) × (given .manure .0 ≤ 100000000) ⌝ }
-    requires activity { ⌜ given .activity ≤ 2000 ⌝ }
-    ensures { λ t. ⌜ TurnedOf s survival r given t ⌝ }
-{
-    let soil = s.soil;
-    let kind = soil.kind;
-    let carbon = soil.pools;
-    let before = s.modern;
-    let mut pools = aged(before);
-    let mut plant = modern_grams(given.plant, given.activity);
-    let mut manure = modern_grams(given.manure, given.activity);
-    let mut modern = before;
-    let mut turn: u64 = 0;
-    while turn < 2 {
-        let turned = turn_over(pools, survival, r, kind, plant, manure);
-        let after = turned.pools;
-        let co2 = turned.co2;
-        if turn == 1 {
-            return TurnedBoth {
-                pools: after,
-                co2,
-                modern,
-            };
-        }
-        modern = after;
-        pools = carbon;
-        plant = given.plant;
-        manure = given.manure;
-        turn += 1;
-    }
-    // never reached: the second turn returns
-    TurnedBoth {
-        pools,
-        co2: Grams(0),
-        modern,
-    }
-}
-
 // Steps 1 to 6 of an accepted month. The row and the state are built of what comes back where they
 // are used, which saves copying both.
 fn run_steps(s: State, e: Entries) -> AfterSteps
@@ -193,7 +133,9 @@ fn run_steps(s: State, e: Entries) -> AfterSteps
     let survival = survivals(n);
     let r = clay_number(soil.clay);
     let given = additions_of(land);
-    let turned = turn_both(s, survival, r, given);
+    let carbon = soil.pools;
+    let before = s.modern;
+    let turned = turn_both(carbon, before, survival, r, soil.kind, given);
     let pools = turned.pools;
     let co2 = turned.co2;
     let modern = turned.modern;

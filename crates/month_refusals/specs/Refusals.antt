@@ -51,8 +51,9 @@ kindOther s = not (eqb (s .kind) 1 || (eqb (s .kind) 2 || eqb (s .kind) 3))
 unfoldable pub carbonAbove : Soil → Bool
 carbonAbove s = ltb carbonCeiling (total (s .pools)) || ltb carbonCeiling (s .iom .0)
 
--- 10, but for modern grams: a state has D outside 0 to M, more than 120,000 months, "a kept count above 24" (change
--- 2026-02), or CO2 and active pools together above 1,000,000,000 + 200,000,000 × months.
+-- 10, but for modern grams: a state has D outside 0 to M, more than 120,000 months, "a kept count
+-- above 24" (change 2026-02), or CO2 and active pools together above 1,000,000,000 + 200,000,000 ×
+-- months.
 unfoldable pub carbonBoundsPassed : State → Bool
 carbonBoundsPassed s =
     ltb (maxDeficit (s .soil .clay) (s .soil .depth)) (s .deficit .0)

@@ -164,8 +164,8 @@ pub fn check_soil(s: Soil) -> Check
     Check::Pass
 }
 
-// 10 but for modern grams: D is outside 0 to M, the months or the kept ones are too many, or CO2 and
-// active pools together are above their bound. The CO2 is tested before the pools are added to it.
+// 10 but for modern grams: D is outside 0 to M, the months or the kept ones are too many, or CO2
+// and active pools together are above their bound. The CO2 is tested before the pools are added.
 fn carbon_bounds_passed(s: State) -> bool
     requires { ⌜ soilCheck (s .soil) ≡ Pass ⌝ }
     ensures { λ r. ⌜ r ≡ carbonBoundsPassed s ⌝ }

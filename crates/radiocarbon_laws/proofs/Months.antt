@@ -29,7 +29,7 @@ use Rattle.month_call.specs.declared.Answer.the-variants.{Refused}
 use Rattle.month_call.specs.Month.{deficitAfter, rateAfter, poolsAfter, gasOf, modernAfter, nextDeficit, nextRate, movedTo, rowOf, outcomeOf, monthCall, listMonth}
 use Rattle.radiocarbon_laws.specs.Without.{noGrams, stateWithout, entriesWithout, outcomeWithout}
 use Rattle.radiocarbon_laws.specs.Calls.{byModern, answerByModern}
-use Rattle.radiocarbon_laws.proofs.Nothing.{none-brought, none-aged, none-turned}
+use Rattle.radiocarbon_laws.proofs.Nothing.{none-after-month}
 
 -- ---- what is asked
 
@@ -121,7 +121,7 @@ module _ (s : State) where
     none-after : modernAfter (s .soil) noGrams (nextRate s e) (entriesWithout e .land) ≡ noGrams
     unfolding modernAfter
     none-after =
-        rw (none-brought _, none-brought _, none-aged) (none-turned (survivals (nextRate s e)) (clayNumber (s .soil .clay)) (s .soil .kind))
+        none-after-month (survivals (nextRate s e)) (clayNumber (s .soil .clay)) (s .soil .kind) _ _
 
     outcome-same : (check : Check) → outcomeOf check (stateWithout s) (entriesWithout e) ≡ outcomeWithout (outcomeOf check s e)
     unfolding outcomeOf movedTo rowOf poolsAfter gasOf modernAfter nextDeficit deficitAfter nextRate rateAfter

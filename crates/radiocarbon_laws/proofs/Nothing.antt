@@ -11,7 +11,7 @@ use Rattle.step_pools.proofs.Laws.{four-grams}
 use Rattle.step_decay.specs.Decay.{losses, formed, decayed}
 use Rattle.step_additions.specs.Additions.{added}
 use Rattle.step_additions.proofs.Laws.{plant-le}
-use Rattle.step_turnover.specs.Turnover.{turnedOver}
+use Rattle.step_turnover.specs.Turnover.{turnedOver, modernTurned}
 use Rattle.step_modern.specs.Modern.{modernGrams, aged}
 use Rattle.radiocarbon_laws.specs.Without.{noGrams}
 
@@ -20,11 +20,11 @@ unfolding share
 share-none part whole = rw (zero-mul part, zero-div whole)
 
 -- Carbon of activity 0 has none.
-pub none-brought : (carbon : ℕ) → modernGrams carbon 0 ≡ 0
+none-brought : (carbon : ℕ) → modernGrams carbon 0 ≡ 0
 unfolding modernGrams share
 none-brought carbon = rw (mul-zero carbon)
 
-pub none-aged : aged noGrams ≡ noGrams
+none-aged : aged noGrams ≡ noGrams
 unfolding aged
 none-aged = four-grams (share-none _ _) (share-none _ _) (share-none _ _) (share-none _ _)
 
@@ -44,9 +44,14 @@ module _ (survival : List ℕ) (r kind : ℕ) where
       (omega (arith, share-none (getD survival 2 0) 1000000000, share-none 46 100))
       (omega (arith, share-none (getD survival 3 0) 1000000000, share-none 46 100)))
 
-  pub none-turned : turnedOver noGrams survival r kind 0 0 ≡ noGrams
+  none-turned : turnedOver noGrams survival r kind 0 0 ≡ noGrams
   unfolding turnedOver added
   none-turned =
       rw none-decayed
       (four-grams (omega (arith, plant-le kind 0, share-none 49 100)) (omega (arith, plant-le kind 0, share-none 49 100, share-none 2 100))
       refl (omega (arith, share-none 2 100)))
+
+  -- A month leaves none.
+  pub none-after-month : (plant manure : ℕ) → modernTurned noGrams survival r kind plant manure 0 ≡ noGrams
+  unfolding modernTurned
+  none-after-month plant manure = rw (none-brought plant, none-brought manure, none-aged) none-turned

@@ -15,9 +15,9 @@ use Rattle.month_refusals.specs.declared.Check.{Check}
 use Rattle.month_refusals.specs.declared.Check.the-variants.{Pass, Refuse}
 use Rattle.month_refusals.specs.declared.Refusal.{Refusal}
 use Rattle.month_refusals.specs.declared.Refusal.the-variants.{NoCarbon}
-use Rattle.month_refusals.specs.Asked.{_if_, at, found, told, numberAndPlace, firstOf, Exactly, checkingOrder, partOf}
+use Rattle.month_refusals.specs.Asked.{_if_, given, at, found, told, numberAndPlace, firstOf, Exactly, checkingOrder, partOf}
 use Rattle.month_refusals.specs.Refusals.{soilAsked, boundsAsked, stateAsked, stateCheck}
-use Rattle.month_refusals.proofs.First.{foundAt, found-at, exactly, first-append}
+use Rattle.month_refusals.proofs.First.{foundAt, found-at, exactly, followedBy, first-append}
 use Rattle.month_refusals.proofs.Accepted.{Sound, sound-state}
 use Rattle.radiocarbon_age.specs.Age.{ageOf}
 use Rattle.radiocarbon_age.proofs.Laws.{age-means}
@@ -53,20 +53,25 @@ module _ (s : State) (subject : Subject) where
 
   -- ---- the answers
 
+  -- 22 is asked after what is asked of the state.
+  asked-in-turn :
+      firstOf (reportAsked s subject) ≡ followedBy (stateCheck s) (given (eqb (carbonOf subject s) 0) NoCarbon Pass)
+  unfolding reportAsked firstOf
+  asked-in-turn = first-append (stateAsked s) ((NoCarbon if eqb (carbonOf subject s) 0) ∷ [])
+
   pub state-refused : {refusal : Refusal} → stateCheck s ≡ Refuse refusal → report s subject ≡ Refused refusal
-  unfolding report reportAsked
-  state-refused h = rw (first-append (stateAsked s) ((NoCarbon if eqb (carbonOf subject s) 0) ∷ []), h)
+  unfolding report
+  state-refused h = rw (asked-in-turn, h)
 
   pub none-refused : stateCheck s ≡ Pass → carbonOf subject s ≡ 0 → report s subject ≡ Refused NoCarbon
-  unfolding report reportAsked firstOf
-  none-refused h none = rw (first-append (stateAsked s) ((NoCarbon if eqb (carbonOf subject s) 0) ∷ []), h, none)
+  unfolding report
+  none-refused h none = rw (asked-in-turn, h, none)
 
   pub some-given :
       stateCheck s ≡ Pass → (carbonOf subject s ≡ 0 → ⊥)
       → report s subject ≡ reportOn (modernOf subject s) (carbonOf subject s)
-  unfolding report reportAsked firstOf
-  some-given h some =
-      rw (first-append (stateAsked s) ((NoCarbon if eqb (carbonOf subject s) 0) ∷ []), h, ne-eqb (carbonOf subject s) 0 some)
+  unfolding report
+  some-given h some = rw (asked-in-turn, h, ne-eqb (carbonOf subject s) 0 some)
 
   -- What the age of the answer says.
   checked-means : (check : Check) → AgeMeans s subject (reportChecked check (reportOn (modernOf subject s) (carbonOf subject s)))

@@ -19,7 +19,8 @@ use Rattle.month_refusals.specs.Refusals.{stateAsked}
 use Rattle.radiocarbon_age.specs.declared.Age.{Age}
 use Rattle.radiocarbon_age.specs.Age.{ageOf, Means}
 use Rattle.radiocarbon_report.specs.declared.Subject.{Subject}
-use Rattle.radiocarbon_report.specs.declared.Subject.the-variants.{Dpm, Rpm, Bio, Hum, Iom, AllFive}
+use Rattle.radiocarbon_report.specs.declared.Subject.the-variants.{Dpm, Rpm, Bio, Hum, Iom}
+use Rattle.radiocarbon_report.specs.declared.Subject.the-variants.{AllFive}
 use Rattle.radiocarbon_report.specs.declared.ReportAnswer.{ReportAnswer}
 use Rattle.radiocarbon_report.specs.declared.ReportAnswer.the-variants.{Given, Refused}
 

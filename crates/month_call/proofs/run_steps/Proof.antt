@@ -3,7 +3,6 @@
 use mathlib.Core.Path.{_≡_, _∙_, ap}
 use Prim.Native.Nat.{ℕ}
 use native.Mathlib.Omega.{arith}
-use borrow.Author.Needs.{needs}
 use Rattle.step_decay.specs.Rates.{survivals}
 use Rattle.step_pools.specs.Pools.{grams}
 use Rattle.month_refusals.proofs.Accepted.{Sound, Ready, sound-state, ready, entries-parts}
@@ -55,25 +54,40 @@ additions-of-requires c κs =
     entries-parts (b .args .s) (b .args .e) (b .pre .entries) .land
 
 turn-both-requires : tie.Need-turn-both-requires
-turn-both-requires c κs = search needs
+turn-both-requires c κs =
+    let additions = c .before .before in
+    let given = additions .additions-of .ensures in
+    let clay = additions .before in
+    let b = start (clay .before .before .before .before) in
+    let s = sound b in
+    let soil = s .soil in (
+      (
+        clay .before .survivals .ensures .1,
+        omega (arith, clay .clay-number .ensures .2),
+        soil .first-kind,
+        soil .last-kind,
+      ),
+      ((given .0 .1, given .1 .0 .1, given .1 .1 .1), (omega (arith, soil .pools), omega (arith, s .months, s .modern))),
+    )
 
 -- Pools, CO2 and modern grams of both turns are the definition's.
 both-are :
     (c : tie.After-turn-both)
-    → let a = start (c .before .before .before .before .before .before) .args in
+    → let a = start (c .before .before .before .before .before .before .before .before) .args in
     (c .turn-both .result .pools ≡ poolsAfter (a .s .soil) (nextRate (a .s) (a .e)) (a .e .land))
     × (c .turn-both .result .co2 .0 ≡ gasOf (a .s .soil) (nextRate (a .s) (a .e)))
     × (c .turn-both .result .modern ≡ modernAfter (a .s .soil) (a .s .modern) (nextRate (a .s) (a .e)) (a .e .land))
 unfolding poolsAfter gasOf modernAfter
 both-are c =
-    let given = c .before .additions-of .ensures in
-    let clay = c .before .before in
+    let additions = c .before .before .before in
+    let given = additions .additions-of .ensures in
+    let clay = additions .before in
     let survival = clay .before in
     let is = survival .survivals .ensures .0 ∙ ap survivals (rate-is (survival .before)) in
     let t = c .turn-both .ensures in (
-      t .pools ∙ rw (is, clay .clay-number .ensures .0, given .0 .0, given .1 .0 .0),
-      t .co2 ∙ rw (is, clay .clay-number .ensures .0),
-      t .modern ∙ rw (is, clay .clay-number .ensures .0, given .0 .0, given .1 .0 .0, given .1 .1 .0),
+      t .0 ∙ rw (is, clay .clay-number .ensures .0, given .0 .0, given .1 .0 .0),
+      t .1 .0 ∙ rw (is, clay .clay-number .ensures .0),
+      t .1 .1 ∙ rw (is, clay .clay-number .ensures .0, given .0 .0, given .1 .0 .0, given .1 .1 .0),
     )
 
 returns : tie.Need-returns
@@ -81,7 +95,7 @@ unfolding stepsOf
 returns c =
     let both = c .before .before .before in
     let is = both-are both in
-    let deficit = both .before .before .before .before .before .deficit-after .ensures in
+    let deficit = both .before .before .before .before .before .before .before .deficit-after .ensures in
     λ i. record {
       pools = is .0 i;
       co2 = grams (is .1 i);

@@ -1,4 +1,4 @@
--- `month_call::turn_both` meets its contract: the first turn is the modern grams', a month older, the second the carbon's. Of both the
+-- `step_turnover::turn_both` meets its contract: the first turn is the modern grams', a month older, the second the carbon's. Of both the
 -- pools with what comes in fit 64 bits.
 -- Assumes nothing.
 use mathlib.Core.Path.{_≡_, refl, _∙_, ap}
@@ -9,11 +9,10 @@ use native.Mathlib.Decide.{decLe}
 use borrow.Author.Needs.{needs}
 use Rattle.number_units.specs.declared.Grams.{Grams}
 use Rattle.step_pools.specs.Pools.{total}
-use Rattle.step_turnover.specs.Turnover.{turnedOver}
 use Rattle.step_modern.proofs.Laws.{modern-most, aged-most}
-use Rattle.month_refusals.proofs.Accepted.{Sound, sound-state}
-use Rattle.month_call.proofs.turn_both.Statement.{statement}
-use Rattle.month_call.proofs.turn_both.Tie as tie
+use Rattle.step_turnover.specs.Turnover.{turnedOver, modernTurned}
+use Rattle.step_turnover.proofs.turn_both.Statement.{statement}
+use Rattle.step_turnover.proofs.turn_both.Tie as tie
 
 -- What is turned over in each turn, and what the first one left.
 record Turns
@@ -70,39 +69,41 @@ module _
           second = λ e. (refl, refl, refl, is ∙ rw (same .0, same .1, same .2));
         }
 
+    -- In the second.
+    turned-again :
+        {pools : List Grams} {plant manure : Grams} {modern after : List Grams} {turn : ℕ}
+        → Turns survival r kind older carbon brought-plant brought-manure own-plant own-manure pools plant manure modern turn
+        → turn ≡ 1 → after ≡ turnedOver pools survival r kind (plant .0) (manure .0)
+        → after ≡ turnedOver carbon survival r kind (own-plant .0) (own-manure .0)
+    turned-again h second is = let same = h .second second in is ∙ rw (same .0, same .1, same .2)
+
 abbrev Inv-loop : tie.InvT-loop
-Inv-loop survival r given kind carbon pools₀ plant₀ manure₀ modern₀ turn₀ pools plant manure modern turn =
+Inv-loop carbon survival r kind given pools₀ plant₀ manure₀ modern₀ turn₀ pools plant manure modern turn =
     Turns survival r kind pools₀ carbon plant₀ manure₀ (given .plant) (given .manure) pools plant manure modern turn
 
 abbrev μ-loop : tie.MeasureT-loop
-μ-loop survival r given kind carbon pools₀ plant₀ manure₀ modern₀ turn₀ pools plant manure modern turn =
+μ-loop carbon survival r kind given pools₀ plant₀ manure₀ modern₀ turn₀ pools plant manure modern turn =
     2 - turn
 
 -- the function's entry
 abbrev start : tie.After-modern-grams2 Inv-loop μ-loop → tie.Start Inv-loop μ-loop
-start c = c .before .before .before .before .before .before
+start c = c .before .before .before
 
-sound-of : (c : tie.Start Inv-loop μ-loop) → Sound (c .args .s)
-sound-of c = sound-state (c .args .s) (c .pre .0 .0)
-
--- The modern grams of an accepted state, a month older, with what additions can bring.
+-- The modern grams, a month older, with what the additions bring.
 older-fit :
     (c : tie.After-modern-grams2 Inv-loop μ-loop)
     → total (c .before .before .aged .result) + c .before .modern-grams .result .0 + c .modern-grams2 .result .0 < 2 ^ 64
 older-fit c =
     let s = start c in
-    let sound = sound-of s in
     omega (
       arith,
-      sound .months,
-      sound .modern,
       s .pre .1,
-      aged-most (s .args .s .modern),
+      aged-most (s .args .before),
       ap total (c .before .before .aged .ensures),
       c .before .modern-grams .ensures,
       c .modern-grams2 .ensures,
-      modern-most (s .args .given .plant .0) (s .pre .1 .1),
-      modern-most (s .args .given .manure .0) (s .pre .1 .1),
+      modern-most (s .args .given .plant .0) (s .pre .1 .0 .2),
+      modern-most (s .args .given .manure .0) (s .pre .1 .0 .2),
     )
 
 aged-requires : tie.Need-aged-requires Inv-loop μ-loop
@@ -121,24 +122,23 @@ turn-over-requires : tie.Need-turn-over-requires Inv-loop μ-loop
 turn-over-requires c κs =
     let both = c .before .before in
     let s = start both in
-    let sound = sound-of s in (
-      (s .pre .0 .1, s .pre .0 .2, sound .soil .first-kind, sound .soil .last-kind),
-      either-fits (c .before .loop .inv) (older-fit both) (omega (arith, sound .soil .pools, s .pre .1)),
-    )
+    (s .pre .0, either-fits (c .before .loop .inv) (older-fit both) (omega (arith, s .pre .1)))
 
 returns : tie.Need-returns Inv-loop μ-loop
+unfolding modernTurned
 returns c =
     let over = c .before .before .before in
     let at = over .before .before in
     let manure = at .before in
     let plant = manure .before in
     let is = at .loop .inv .second (c .if1 .taken) in
-    let t = over .turn-over .ensures in
-    record {
-      pools = t .0 ∙ rw (is .0, is .1, is .2);
-      co2 = t .1 ∙ rw (is .0);
-      modern = is .3 ∙ rw (plant .before .aged .ensures, plant .modern-grams .ensures, manure .modern-grams2 .ensures);
-    }
+    let t = over .turn-over .ensures in (
+      turned-again (at .loop .inv) (c .if1 .taken) (t .0),
+      (
+        t .1 ∙ rw (is .0),
+        is .3 ∙ rw (plant .before .aged .ensures, plant .modern-grams .ensures, manure .modern-grams2 .ensures),
+      ),
+    )
 
 add-turn : tie.Need-add-turn Inv-loop μ-loop
 add-turn c = omega (arith, c .before .before .before .before .before .before .before .loop .inv .within)
