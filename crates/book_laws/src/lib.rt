@@ -4,3 +4,4 @@
 // never refuse a book. proofs/WholeList.antt: the list is the whole one, its checks passed.
 // proofs/Balance.antt: demand 3, and the carbon of the answer to the gram. proofs/January.antt:
 // January 1852.
+#![tactic(auto)]

@@ -1,5 +1,6 @@
 // The lines of document 01's book on a byte slice: heads, and lines of values with one space
 // between them, each ended by byte 10. specs/Lines.antt says what each function gives.
+#![tactic(auto)]
 ghost use Rattle.std.specs.Prelude.{◌≡◌};
 ghost use Rattle.book_lines.specs.Lines.{bytes_are, spaced_value, ended, head_line};
 ghost use Rattle.book_lines.specs.Lines.{soil_line, weather_line, land_line};
@@ -7,7 +8,7 @@ ghost use Rattle.book_lines.specs.Lines.{soil_line, weather_line, land_line};
 use book_values::{Signed, Value, byte_is, read_signed, read_value};
 
 // A soil's eight numbers, as its line has them.
-#[derive(Drop)]
+#[derive(Clone, Copy)]
 pub struct SoilNumbers {
     pub clay: u64,
     pub depth: u64,
@@ -20,21 +21,21 @@ pub struct SoilNumbers {
 }
 
 // What reading the soil's line finds: its numbers with the place of the next line, or another form.
-#[derive(Drop)]
+#[derive(Clone, Copy)]
 pub enum SoilLine {
     Row(SoilNumbers, usize),
     Malformed,
 }
 
 // The same of a weather line: temperature, rain, evaporation.
-#[derive(Drop)]
+#[derive(Clone, Copy)]
 pub enum WeatherLine {
     Row(i64, u64, u64, usize),
     Malformed,
 }
 
 // The same of a land line: cover, plant grams, manure grams.
-#[derive(Drop)]
+#[derive(Clone, Copy)]
 pub enum LandLine {
     Row(u64, u64, u64, usize),
     Malformed,

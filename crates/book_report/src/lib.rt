@@ -1,5 +1,6 @@
 // A book in, the program's output out: the book is run and its answer written, as bytes, to a lent
 // array. specs/Report.antt says what is written, and whether it is a refusal.
+#![tactic(auto)]
 ghost use Rattle.std.specs.Prelude.{◌≡◌, ◌≤◌, length};
 ghost use Rattle.book_digits.specs.Digits.{overwritten};
 ghost use Rattle.book_report.specs.Report.{months_run, output_of, report_of};
@@ -29,7 +30,7 @@ pub fn write_answer(answer: BookAnswer, rows: &[u64; 8400], out: &mut [u8; 204_8
 }
 
 // What was written for a book: its length, and whether it is a refusal.
-#[derive(Drop)]
+#[derive(Clone, Copy)]
 pub struct Written {
     pub length: usize,
     pub refused: bool,

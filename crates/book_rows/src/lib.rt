@@ -1,5 +1,6 @@
 // The rows of the book's WEATHER and LAND sections, read from its lines into lent slices of
 // numbers, and a line of weather as a row. specs/Rows.antt says what each function gives.
+#![tactic(auto)]
 ghost use Rattle.std.specs.Prelude.{◌≡◌, ◌*◌, ◌≤◌, length};
 ghost use Rattle.list_rows.specs.Rows.{weather_width, land_width};
 ghost use Rattle.book_rows.specs.Rows.{LineFits, as_weather, weather_row, land_row};
@@ -15,21 +16,21 @@ use month_state::{Land, Weather};
 const FRESH: i64 = 1000;
 
 // A weather line: its row with the place of the next line, or why it is refused.
-#[derive(Drop)]
+#[derive(Clone, Copy)]
 pub enum WeatherRow {
     Row(Weather, usize),
     Refused(Refusal),
 }
 
 // The same of a land line.
-#[derive(Drop)]
+#[derive(Clone, Copy)]
 pub enum LandRow {
     Row(Land, usize),
     Refused(Refusal),
 }
 
 // How reading rows ends: with the place of the next line, or refused on a line.
-#[derive(Drop)]
+#[derive(Clone, Copy)]
 pub enum RowsEnd {
     Next(usize),
     Refused(Refusal, u64),
@@ -107,7 +108,7 @@ pub fn read_weather(s: &[u8], place: usize, line: u64, count: usize, weather: &m
 }
 
 // What reading land rows gives: how many were read, and how it ended.
-#[derive(Drop)]
+#[derive(Clone, Copy)]
 pub struct LandEnd {
     pub rows: usize,
     pub ends: RowsEnd,

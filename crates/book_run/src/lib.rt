@@ -1,6 +1,7 @@
 // The book of document 01: the soil, all weather, then the land, whose rows are read up to the
 // first that is malformed and then run as step 7's months. specs/Book.antt says what each function
 // gives.
+#![tactic(auto)]
 ghost use Rattle.std.specs.Prelude.{◌≡◌, ◌+◌, ◌*◌, ◌≤◌, ◌<◌, length};
 ghost use Rattle.list_rows.specs.Rows.{weather_width};
 ghost use Rattle.month_refusals.specs.declared.Check.TheVariants.{Pass};
@@ -24,7 +25,7 @@ use number_units::Grams;
 
 // A book's answer: the months run, the five pools together and the CO2 to date; or why it is
 // refused, and the line.
-#[derive(Drop)]
+#[derive(Clone, Copy)]
 pub enum BookAnswer {
     Finished(u64, Grams, Grams),
     Refused(Refusal, u64),

@@ -1,18 +1,19 @@
 // The values of document 01's book, read at a place of a byte slice. specs/Values.antt says what
 // each function gives.
+#![tactic(auto)]
 ghost use Rattle.std.specs.Prelude.{◌≡◌, cond, ℕ, ◌^◌, ◌≤◌, ◌<◌, length};
 ghost use Rattle.book_values.specs.Values.{is_digit, byte_is, more_digits, read_value};
 ghost use Rattle.book_values.specs.Values.{without_minus, after_minus, read_signed};
 
 // What reading a value finds: the value with the place after it, or no value.
-#[derive(Drop)]
+#[derive(Clone, Copy)]
 pub enum Value {
     Number(u64, usize),
     Malformed,
 }
 
 // The same of a value that may have a minus.
-#[derive(Drop)]
+#[derive(Clone, Copy)]
 pub enum Signed {
     Number(i64, usize),
     Malformed,

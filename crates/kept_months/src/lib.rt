@@ -1,5 +1,6 @@
 // Taking a month back, change 2026-02 of document 02: a month that keeps the state before it in
 // lent memory, and the taking back of the latest one.
+#![tactic(auto)]
 ghost use Rattle.std.specs.Prelude.{◌≡◌, ◌<◌, length};
 ghost use Rattle.month_layouts.specs.Layouts.{memory_width};
 ghost use Rattle.month_refusals.specs.Asked.{at, told, Exactly, Finds};
@@ -15,7 +16,7 @@ use month_refusals::{Check, Refusal};
 use month_state::{Entries, State};
 
 // What taking back answers: the latest month is taken back, or why it is refused.
-#[derive(Drop)]
+#[derive(Clone, Copy)]
 pub enum TakeAnswer {
     Taken,
     Refused(Refusal),
@@ -23,7 +24,7 @@ pub enum TakeAnswer {
 
 // The answer, with the state beside it: the one before the latest month, or after a refusal the one
 // that was given.
-#[derive(Drop)]
+#[derive(Clone, Copy)]
 pub struct TakeOutcome {
     pub answer: TakeAnswer,
     pub state: State,

@@ -1,5 +1,6 @@
 // The body of rothc_take_back: a field's numbers in lent memory. It returns the papers' refusal
 // number, 0 where nothing is refused, and 100 where the field has another length.
+#![tactic(auto)]
 ghost use Rattle.std.specs.Prelude.{◌≡◌};
 ghost use Rattle.library_back.specs.Calls.{rothc_take_back};
 

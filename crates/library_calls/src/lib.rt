@@ -1,5 +1,6 @@
 // The functions of include/rothc.h, for C, Rust and Python: each is its body's, in a crate beside
 // this one, where its wrong programs are tried. An export can only be of its own crate.
+#![tactic(auto)]
 ghost use Rattle.std.specs.Prelude.{true, ◌≡◌, ◌≤◌};
 ghost use Rattle.library_survival.specs.Calls.{has_survival, rothc_survival, rothc_survival_terms};
 ghost use Rattle.library_month.specs.Calls.{rothc_start, rothc_month};

@@ -1,6 +1,7 @@
 // The bodies of rothc_list and rothc_spin_up: numbers and slices of numbers in lent memory. Each
 // call returns the papers' refusal number, 0 where nothing is refused, and 100 where memory of a
 // fixed layout has another length.
+#![tactic(auto)]
 ghost use Rattle.std.specs.Prelude.{◌≡◌, length};
 ghost use Rattle.list_run.specs.Run.{list_told};
 ghost use Rattle.spin_up.specs.SpinUp.{spin_told};

@@ -1,6 +1,7 @@
 // The rows of a list of months, step 7 of document 01: weather, land and months' rows as numbers in
 // lent memory, read and written, how many there are, and the entries of a month. Lists, books and
 // the library use these functions, which alone know how many numbers a row has.
+#![tactic(auto)]
 ghost use Rattle.std.specs.Prelude.{◌≡◌, ◌+◌, ◌*◌, ◌%◌, ◌≤◌, ◌<◌, length};
 ghost use Rattle.list_rows.specs.Rows.{weather_width, land_width, entries_width, row_width};
 ghost use Rattle.list_rows.specs.Rows.{weather_from, land_from, entries_of};

@@ -1,6 +1,7 @@
 // A list of months from a given state, step 7 of document 01: weather and land rows lent as slices
 // of numbers, the rows that the months give written to a lent output, and the states before them
 // kept in lent memory.
+#![tactic(auto)]
 ghost use Rattle.std.specs.Prelude.{◌≡◌, ◌++◌, ◌*◌, ◌≤◌, length};
 ghost use Rattle.month_layouts.specs.Layouts.{memory_width};
 ghost use Rattle.list_rows.specs.Rows.{weather_width, land_width, row_width, land_rows};
@@ -21,14 +22,14 @@ use month_state::State;
 
 // A list's answer: it ran to its end, or it was refused at a place: 0, or the month counted from
 // its first.
-#[derive(Drop)]
+#[derive(Clone, Copy)]
 pub enum ListAnswer {
     Finished,
     Refused(Refusal, u64),
 }
 
 // The answer, with the state beside it: after the months that ran.
-#[derive(Drop)]
+#[derive(Clone, Copy)]
 pub struct ListOutcome {
     pub answer: ListAnswer,
     pub state: State,

@@ -1,5 +1,6 @@
 // The single month call of document 01: a state and a month's entries by value, the next state or a
 // refusal.
+#![tactic(auto)]
 ghost use Rattle.std.specs.Prelude.{◌≡◌, ◌+◌, ◌≤◌, ◌<◌, ◌^◌, nat_abs};
 ghost use Rattle.month_state.specs.declared.Entries.{Entries};
 ghost use Rattle.month_refusals.specs.declared.Check.TheVariants.{Pass};
@@ -21,14 +22,14 @@ use step_turnover::{Additions, turn_both};
 use step_water::{max_deficit, moisture_factor, new_deficit};
 
 // A month's answer: its row, or why it is refused.
-#[derive(Drop)]
+#[derive(Clone, Copy)]
 pub enum Answer {
     Done(Row),
     Refused(Refusal),
 }
 
 // The answer, with the state beside it: the next state, or after a refusal the one that was given.
-#[derive(Drop)]
+#[derive(Clone, Copy)]
 pub struct Outcome {
     pub answer: Answer,
     pub state: State,
@@ -36,7 +37,7 @@ pub struct Outcome {
 
 // What steps 1 to 6 give: the pools after the month, its CO2, the new deficit, and the modern grams
 // after it.
-#[derive(Drop)]
+#[derive(Clone, Copy)]
 struct AfterSteps {
     pools: [Grams; 4],
     co2: Grams,

@@ -1,5 +1,6 @@
 // The papers' refusals: one enum for all calls, their numbers, what each call asks in the papers'
 // order, and the checks of a soil and of a state's bounds. No sum wraps, whatever the numbers.
+#![tactic(auto)]
 ghost use Rattle.std.specs.Prelude.{◌≡◌, ◌≤◌, ◌^◌, ltb};
 ghost use Rattle.step_pools.specs.Pools.{total};
 ghost use Rattle.month_state.specs.State.{month_limit};
@@ -16,7 +17,7 @@ use step_pools::total;
 use step_water::max_deficit;
 
 // Why something is refused. `refusal_number` of specs/Asked.antt gives the papers' numbers.
-#[derive(Drop)]
+#[derive(Clone, Copy)]
 pub enum Refusal {
     Length,
     Form,
@@ -43,14 +44,14 @@ pub enum Refusal {
 }
 
 // What a check finds: nothing, or the first refusal that applies.
-#[derive(Drop)]
+#[derive(Clone, Copy)]
 pub enum Check {
     Pass,
     Refuse(Refusal),
 }
 
 // "A refusal returns its number and place": both 0 where nothing is refused.
-#[derive(Drop)]
+#[derive(Clone, Copy)]
 pub struct NumberAndPlace {
     pub number: u64,
     pub place: u64,

@@ -1,4 +1,5 @@
 // Soils, states, a month's entries and its row by value; a new state, and the total of a state.
+#![tactic(auto)]
 ghost use Rattle.std.specs.Prelude.{◌≡◌, ◌<◌, ◌^◌, pos, nat_abs, ◌≤ℤ◌};
 ghost use Rattle.month_state.specs.State.{new_state, five_pools, one_more_kept};
 
@@ -7,7 +8,7 @@ use step_pools::total;
 
 // A soil: clay in tenths of a percent, depth in cm, the kind of its plants, its four active pools
 // in the order DPM, RPM, BIO, HUM, and its inert carbon.
-#[derive(Drop)]
+#[derive(Clone, Copy)]
 pub struct Soil {
     pub clay: u64,
     pub depth: u64,
@@ -19,7 +20,7 @@ pub struct Soil {
 // A state: the soil, the deficit D, the months done and the CO2 to date; the modern grams of its
 // active pools (change 2026-04 of document 02; IOM's follow from its carbon); and how many of the
 // states before its latest months are kept (change 2026-02). These lie in lent memory.
-#[derive(Drop)]
+#[derive(Clone, Copy)]
 pub struct State {
     pub soil: Soil,
     pub deficit: Parts,
@@ -32,7 +33,7 @@ pub struct State {
 // A month's weather. `source` is document 02's "fourth number", the kind of the evaporation: 0 for
 // open pan, 1 for potential evapotranspiration. Here and in the land's entries the numbers have a
 // sign, so that one below 0 is refused and not misread.
-#[derive(Drop)]
+#[derive(Clone, Copy)]
 pub struct Weather {
     pub temperature: i64,
     pub rain: i64,
@@ -42,7 +43,7 @@ pub struct Weather {
 
 // What the land is given in a month: its cover, plant carbon and manure, and the activity of both
 // in thousandths.
-#[derive(Drop)]
+#[derive(Clone, Copy)]
 pub struct Land {
     pub cover: i64,
     pub plant: i64,
@@ -51,14 +52,14 @@ pub struct Land {
 }
 
 // What a month is given.
-#[derive(Drop)]
+#[derive(Clone, Copy)]
 pub struct Entries {
     pub weather: Weather,
     pub land: Land,
 }
 
 // A month's row: the five pools, the month's CO2 and the new deficit.
-#[derive(Drop)]
+#[derive(Clone, Copy)]
 pub struct Row {
     pub dpm: Grams,
     pub rpm: Grams,

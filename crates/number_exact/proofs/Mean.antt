@@ -62,7 +62,7 @@ mean_times v f zero = omega arith
 mean_times v f (suc k) =
     let shifted : ℕ → ℕ = λ i. f (suc i) in
     let same : (i : ℕ) → suc i * f i ≡ times shifted i + f i =
-    λ i. elim i [ zero ↦ omega arith | suc j ↦ omega arith ] in
+    λ i. elim i as (λ j. suc j * f j ≡ times shifted j + f j) [ zero ↦ omega arith | suc j ↦ omega arith ] in
     let p : mean v (times f) (suc k) ≡ suc k * mean v f k = mean_times v f k in
     let q : mean v (λ i. suc i * f i) (suc k) ≡ suc k * mean v shifted k + mean v f (suc k) =
     mean-same v (λ i. suc i * f i) (λ i. times shifted i + f i) (suc k) same

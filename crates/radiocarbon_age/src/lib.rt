@@ -1,5 +1,6 @@
 // The radiocarbon age of modern grams in carbon, change 2026-04 of document 02, found by halves:
 // survival numbers never rise with the age.
+#![tactic(auto)]
 ghost use Rattle.std.specs.Prelude.{true, ◌≡◌, ◌≤◌};
 ghost use Rattle.step_survival.specs.Ages.{age_limit};
 ghost use Rattle.radiocarbon_age.specs.Age.{does, age_of, Smallest, Means};
@@ -10,7 +11,7 @@ use step_survival::age_survival;
 pub const AGE_LIMIT: u64 = 60_000;
 
 // An age in whole years; or older than any that is tried; or more modern grams than grams.
-#[derive(Drop)]
+#[derive(Clone, Copy)]
 pub enum Age {
     Years(u64),
     Older,

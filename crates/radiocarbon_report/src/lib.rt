@@ -1,5 +1,6 @@
 // The radiocarbon report on a state, change 2026-04 of document 02: delta and age of a pool, or of
 // all five, whose carbon and modern grams are added first.
+#![tactic(auto)]
 ghost use Rattle.std.specs.Prelude.{◌≡◌, true, ◌≤◌, ◌<◌, ◌^◌};
 ghost use Rattle.month_refusals.specs.declared.Check.TheVariants.{Pass};
 ghost use Rattle.month_refusals.specs.Asked.{at, told, Exactly, checking_order, part_of};
@@ -16,7 +17,7 @@ use step_modern::{INERT_ACTIVITY, modern_grams};
 use step_pools::total;
 
 // What a report can be on: a pool, or all five.
-#[derive(Drop)]
+#[derive(Clone, Copy)]
 pub enum Subject {
     Dpm,
     Rpm,
@@ -27,7 +28,7 @@ pub enum Subject {
 }
 
 // A report's answer: delta in hundredths with the age, or why it is refused.
-#[derive(Drop)]
+#[derive(Clone, Copy)]
 pub enum ReportAnswer {
     Given(i64, Age),
     Refused(Refusal),

@@ -2,6 +2,7 @@
 // standard output. Where it fails, a line on standard error says at what. A Rattle program can't
 // set its exit status: started with an argument, as ./rothc does, this one writes it to descriptor
 // 3, as a digit.
+#![tactic(auto)]
 ghost use Rattle.std.specs.Prelude.{◌≡◌, ◌≤◌, ◌<◌, length};
 ghost use Rattle.book_report.specs.Report.{book_refused};
 ghost use Rattle.rothc.specs.Status.{status_of};
@@ -15,7 +16,7 @@ const STATUS_FILENO: i32 = 3;
 const TRIES: u64 = 1_000_000_000;
 
 // What reading gives: how many bytes came, and whether it failed.
-#[derive(Drop)]
+#[derive(Clone, Copy)]
 struct Input {
     length: usize,
     failed: bool,
@@ -114,7 +115,7 @@ fn status(whole: bool, refused: bool) -> u8
 }
 
 // What running a book came to: whether its output was written whole, and the exit status.
-#[derive(Drop)]
+#[derive(Clone, Copy)]
 struct Ran {
     whole: bool,
     status: u8,

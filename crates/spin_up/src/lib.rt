@@ -1,5 +1,6 @@
 // Spin-up of document 01: twelve weather and twelve land rows repeated for up to a given number of
 // years, until a year settles.
+#![tactic(auto)]
 ghost use Rattle.std.specs.Prelude.{◌≡◌, ◌++◌, ◌*◌, ◌≤◌, length};
 ghost use Rattle.month_state.specs.State.{kept_aside};
 ghost use Rattle.list_rows.specs.Rows.{weather_width, land_width};
@@ -19,7 +20,7 @@ use month_state::{State, five_pools};
 
 // A spin-up's answer: settled with the years run, unsettled with the years allowed, or refused at a
 // place: 0, or the month counted over all its years.
-#[derive(Drop)]
+#[derive(Clone, Copy)]
 pub enum SpinAnswer {
     Settled(u64),
     Unsettled(u64),
@@ -28,7 +29,7 @@ pub enum SpinAnswer {
 
 // The answer, with the state beside it: the state reached, with none kept, or after a refusal the
 // starting state.
-#[derive(Drop)]
+#[derive(Clone, Copy)]
 pub struct SpinOutcome {
     pub answer: SpinAnswer,
     pub state: State,

@@ -1,5 +1,6 @@
 // Step 4 for the four pools and step 5 of document 01, by value: survival numbers, what the pools
 // keep and lose, what the losses form.
+#![tactic(auto)]
 ghost use Rattle.std.specs.Prelude.{◌≡◌, ◌≤◌, ◌<◌, ◌^◌, get_or};
 ghost use Rattle.step_pools.specs.Pools.{total};
 ghost use Rattle.step_decay.specs.Decay.{Survivals, lost, losses, formed, carbon_dioxide};
@@ -72,7 +73,7 @@ fn to_bio(f: Grams) -> Grams
 }
 
 // The four pools after decay, and the CO2 that it gave off.
-#[derive(Drop)]
+#[derive(Clone, Copy)]
 pub struct Decayed {
     pub pools: [Grams; 4],
     pub co2: Grams,

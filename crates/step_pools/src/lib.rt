@@ -1,5 +1,7 @@
 // Grams shared and added: a share of a number rounded down, and the sum of four pools, or of their
 // losses, by value.
+#![tactic(auto)]
+
 ghost use Rattle.std.specs.Prelude.{◌≡◌, ◌≤◌, ◌<◌, ◌^◌};
 ghost use Rattle.step_pools.specs.Pools.{share, total};
 

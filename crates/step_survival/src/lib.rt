@@ -1,4 +1,5 @@
 // Step 4 of document 01: the rate number N, and the survival number S(N, K) in integers of 64 bits.
+#![tactic(auto)]
 ghost use Rattle.std.specs.Prelude.{◌≡◌, ◌+◌, ◌*◌, ◌/◌, ◌^◌, ◌≤◌, ◌<◌};
 ghost use Rattle.step_survival.specs.Series.{term, series, term_count};
 ghost use Rattle.step_survival.specs.Survival.{rate_number, parts, survival_at};
@@ -41,7 +42,7 @@ fn next_term(term: u64, r: u64, k: u64) -> u64
 }
 
 // Terms 2 to 5 of the series. Term 0 is 1, term 1 is r, and term 6 is 0.
-#[derive(Drop)]
+#[derive(Clone, Copy)]
 struct Terms {
     second: u64,
     third: u64,
@@ -139,7 +140,7 @@ pub fn age_survival(years: u64) -> u64
 }
 
 // A survival number, and how many terms were summed for it.
-#[derive(Drop)]
+#[derive(Clone, Copy)]
 pub struct Counted {
     pub survival: u64,
     pub terms: u64,

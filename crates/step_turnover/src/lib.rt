@@ -1,5 +1,6 @@
 // Steps 5 and 6 of document 01 on four pools by value: the one function for their carbon and for
 // their modern grams (change 2026-04 of document 02), and a month's turn of both.
+#![tactic(auto)]
 ghost use Rattle.std.specs.Prelude.{◌≡◌, ◌+◌, ◌≤◌, ◌<◌, ◌^◌};
 ghost use Rattle.step_pools.specs.Pools.{total};
 ghost use Rattle.step_decay.specs.Decay.{Survivals};
@@ -11,7 +12,7 @@ use step_decay::decay;
 use step_modern::{aged, modern_grams};
 
 // The four pools after a month's decay and additions, and what left them as CO2.
-#[derive(Drop)]
+#[derive(Clone, Copy)]
 pub struct TurnedOver {
     pub pools: [Grams; 4],
     pub co2: Grams,
@@ -40,7 +41,7 @@ pub fn turn_over(
 }
 
 // A month's additions and their activity in thousandths.
-#[derive(Drop)]
+#[derive(Clone, Copy)]
 pub struct Additions {
     pub plant: Grams,
     pub manure: Grams,
@@ -48,7 +49,7 @@ pub struct Additions {
 }
 
 // The four pools after a month, what left them as CO2, and the modern grams after it.
-#[derive(Drop)]
+#[derive(Clone, Copy)]
 pub struct TurnedBoth {
     pub pools: [Grams; 4],
     pub co2: Grams,

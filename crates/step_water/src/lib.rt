@@ -1,6 +1,8 @@
 // Water, step 3 of document 01: the month's soil moisture deficit D and the rate factor B. Each
 // function is the definition of specs/Water.antt that its promise names. The bound 560,250,000 is
 // the largest M, at clay 650 and depth 100.
+#![tactic(auto)]
+
 ghost use Rattle.std.specs.Prelude.{◌≡◌, ◌≤◌, ◌<◌};
 ghost use Rattle.step_water.specs.Water.{max_deficit, bare_limit, tenth_dries, drying};
 ghost use Rattle.step_water.specs.Water.{deficit_cap, clamped, new_deficit};

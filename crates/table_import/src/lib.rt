@@ -1,5 +1,6 @@
 // A weather office's table, change 2026-01 of document 02: bytes in, weather rows of four numbers
 // to a lent output. specs/Table.antt says what each function gives.
+#![tactic(auto)]
 ghost use Rattle.std.specs.Prelude.{◌≡◌, ◌*◌, ◌≤◌, length};
 ghost use Rattle.month_refusals.specs.declared.Check.TheVariants.{Pass};
 ghost use Rattle.month_refusals.specs.Asked.{first_of, Finds, told, Exactly};
@@ -15,7 +16,7 @@ use month_refusals::{Check, Refusal};
 use table_lines::{line_count, table_line};
 
 // A table's answer: how many rows it has, or why it is refused, and the line (0 for 3 and 8).
-#[derive(Drop)]
+#[derive(Clone, Copy)]
 pub enum TableAnswer {
     Read(u64),
     Refused(Refusal, u64),

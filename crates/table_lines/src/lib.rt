@@ -1,5 +1,6 @@
 // The lines of a weather office's table on a byte slice: month;temperature;rain;evapotranspiration,
 // each ended by byte 10. specs/Lines.antt says what each function gives.
+#![tactic(auto)]
 ghost use Rattle.std.specs.Prelude.{◌≡◌};
 ghost use Rattle.table_lines.specs.Lines.{read_tenths, read_signed_tenths};
 ghost use Rattle.table_lines.specs.Lines.{next_tenths, next_signed, table_line, line_count};

@@ -1,6 +1,7 @@
 // Runs many books in one go, for tests: standard input is a row of framed books, each a line with
 // its length in bytes and then that many bytes. The output of each is written to standard output,
 // one after another. A fault of the framing ends it.
+#![tactic(auto)]
 ghost use Rattle.std.specs.Prelude.{◌≤◌, ◌<◌, length};
 
 use book_values::{Value, byte_is, read_value};

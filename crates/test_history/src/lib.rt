@@ -1,6 +1,7 @@
 // A history of a field, from the new state of a soil: months, lists, spin-ups and takings-back,
 // each an act of ten numbers. What each returns is written, and then the whole field. The calls
 // are the bodies of the functions for C, which have one line each.
+#![tactic(auto)]
 ghost use Rattle.std.specs.Prelude.{◌≡◌, ◌≤◌, length, take};
 
 use list_rows::{ENTRIES_WIDTH, LAND_WIDTH, ROW_WIDTH, WEATHER_WIDTH};

@@ -1,23 +1,24 @@
 // Numbers read at a place of the text. A fault gives the place after the text's last byte, where
 // nothing more can be read and no line ends: so a line is tested for faults once, at its end.
+#![tactic(auto)]
 ghost use Rattle.std.specs.Prelude.{◌≡◌, ◌≤◌, length, take};
 
 // A number, and the place after it.
-#[derive(Drop)]
+#[derive(Clone, Copy)]
 pub struct Number {
     pub value: u64,
     pub next: usize,
 }
 
 // The same of a number that may have a minus.
-#[derive(Drop)]
+#[derive(Clone, Copy)]
 pub struct Signed {
     pub value: i64,
     pub next: usize,
 }
 
 // How many numbers a list has, and the place after them.
-#[derive(Drop)]
+#[derive(Clone, Copy)]
 pub struct Count {
     pub value: usize,
     pub next: usize,
