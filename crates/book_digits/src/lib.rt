@@ -1,6 +1,7 @@
 // The numbers of document 01's book, and bytes, written at a place of a lent byte slice.
 // specs/Digits.antt says what each function leaves there.
 #![tactic(auto)]
+
 ghost use Rattle.std.specs.Prelude.{◌≡◌, ◌+◌, ◌≤◌, length};
 ghost use Rattle.book_digits.specs.Digits.{decimal, overwritten};
 

@@ -1,5 +1,5 @@
-// The functions of include/rothc.h, for C, Rust and Python: each is its body's, in a crate beside
-// this one, where its wrong programs are tried. An export can only be of its own crate.
+// The functions of include/rothc.h, for Rust and for the tests: each is its body's, in a crate beside
+// this one, where its wrong programs are tried. library_calls_c has them for C and Python.
 #![tactic(auto)]
 ghost use Rattle.std.specs.Prelude.{true, ◌≡◌, ◌≤◌};
 ghost use Rattle.library_survival.specs.Calls.{has_survival, rothc_survival, rothc_survival_terms};
@@ -10,15 +10,13 @@ ghost use Rattle.library_radiocarbon.specs.Calls.{rothc_radiocarbon, rothc_age_s
 ghost use Rattle.library_book.specs.Calls.{rothc_book};
 ghost use Rattle.library_table.specs.Calls.{rothc_table};
 
-#[unsafe(no_mangle)]
-pub extern "C" fn rothc_survival(n: u64, pool: u64) -> u64
+pub fn rothc_survival(n: u64, pool: u64) -> u64
     ensures { result ≡ rothc_survival n pool }
 {
     library_survival::survival(n, pool)
 }
 
-#[unsafe(no_mangle)]
-pub extern "C" fn rothc_survival_terms(n: u64, pool: u64, terms: &mut u64) -> u64
+pub fn rothc_survival_terms(n: u64, pool: u64, terms: &mut u64) -> u64
     ensures left { record { survival = result; terms = terms.new }
         ≡ rothc_survival_terms n pool terms.old }
     ensures few { has_survival n pool ≡ true → terms.new ≤ 40 }
@@ -26,16 +24,14 @@ pub extern "C" fn rothc_survival_terms(n: u64, pool: u64, terms: &mut u64) -> u6
     library_survival::survival_terms(n, pool, terms)
 }
 
-#[unsafe(no_mangle)]
-pub extern "C" fn rothc_start(soil: &[u64], state: &mut [u64]) -> u64
+pub fn rothc_start(soil: &[u64], state: &mut [u64]) -> u64
     ensures { record { number = result; state = state.new }
         ≡ rothc_start soil.now state.old }
 {
     library_month::start(soil, state)
 }
 
-#[unsafe(no_mangle)]
-pub extern "C" fn rothc_month(
+pub fn rothc_month(
     state: &mut [u64],
     number: u64,
     entries: &[i64],
@@ -47,16 +43,14 @@ pub extern "C" fn rothc_month(
     library_month::month(state, number, entries, row)
 }
 
-#[unsafe(no_mangle)]
-pub extern "C" fn rothc_take_back(state: &mut [u64]) -> u64
+pub fn rothc_take_back(state: &mut [u64]) -> u64
     ensures { record { number = result; state = state.new }
         ≡ rothc_take_back state.old }
 {
     library_back::take_back(state)
 }
 
-#[unsafe(no_mangle)]
-pub extern "C" fn rothc_list(
+pub fn rothc_list(
     state: &mut [u64],
     weather: &[i64],
     land: &[i64],
@@ -75,46 +69,41 @@ pub extern "C" fn rothc_list(
     library_list::list(state, weather, land, rows, place)
 }
 
-#[unsafe(no_mangle)]
-pub extern "C" fn rothc_spin_up(
+pub fn rothc_spin_up(
     state: &mut [u64],
     weather: &[i64],
     land: &[i64],
     years: u64,
     res: &mut [u64],
 ) -> u64
-    ensures* { λ r. ⌜ record { number = r; state = state.new; result = res.new }
+    ensures { record { number = result; state = state.new; result = res.new }
         ≡ rothc_spin_up state.old weather.now land.now years
-        res.old ⌝ }
+        res.old }
 {
     library_list::spin_up(state, weather, land, years, res)
 }
 
-#[unsafe(no_mangle)]
-pub extern "C" fn rothc_radiocarbon(state: &[u64], pool: u64, report: &mut [i64]) -> u64
+pub fn rothc_radiocarbon(state: &[u64], pool: u64, report: &mut [i64]) -> u64
     ensures { record { number = result; report = report.new }
         ≡ rothc_radiocarbon state.now pool report.old }
 {
     library_radiocarbon::radiocarbon(state, pool, report)
 }
 
-#[unsafe(no_mangle)]
-pub extern "C" fn rothc_age_survival(years: u64) -> u64
+pub fn rothc_age_survival(years: u64) -> u64
     ensures { result ≡ rothc_age_survival years }
 {
     library_radiocarbon::age_number(years)
 }
 
-#[unsafe(no_mangle)]
-pub extern "C" fn rothc_book(book: &[u8], out: &mut [u8], length: &mut u64) -> u64
+pub fn rothc_book(book: &[u8], out: &mut [u8], length: &mut u64) -> u64
     ensures { record { number = result; out = out.new; size = length.new }
         ≡ rothc_book book.now out.old }
 {
     library_book::book(book, out, length)
 }
 
-#[unsafe(no_mangle)]
-pub extern "C" fn rothc_table(
+pub fn rothc_table(
     table: &[u8],
     weather: &mut [i64],
     rows: &mut u64,

@@ -1,6 +1,7 @@
 // The papers' checks of a month's weather, of its entries and of a single month call, each in the
 // papers' order.
 #![tactic(auto)]
+
 ghost use Rattle.std.specs.Prelude.{◌≡◌, ◌++◌};
 ghost use Rattle.month_refusals.specs.declared.Check.TheVariants.{Pass};
 ghost use Rattle.month_refusals.specs.Asked.{Finds};

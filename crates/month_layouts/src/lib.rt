@@ -1,6 +1,7 @@
 // The layouts of soils and states as numbers in lent memory, read and written. The crate list_rows
 // has those of rows.
 #![tactic(auto)]
+
 ghost use Rattle.std.specs.Prelude.{◌≡◌, ◌+◌, ◌≤◌, length};
 ghost use Rattle.std.proofs.lemmas.List.Edits.{sets};
 ghost use Rattle.month_layouts.specs.Layouts.{soil_width, kept_width, state_width};

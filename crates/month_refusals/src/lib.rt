@@ -1,6 +1,7 @@
 // The papers' refusals: one enum for all calls, their numbers, what each call asks in the papers'
 // order, and the checks of a soil and of a state's bounds. No sum wraps, whatever the numbers.
 #![tactic(auto)]
+
 ghost use Rattle.std.specs.Prelude.{◌≡◌, ◌≤◌, ◌^◌, ltb};
 ghost use Rattle.step_pools.specs.Pools.{total};
 ghost use Rattle.month_state.specs.State.{month_limit};

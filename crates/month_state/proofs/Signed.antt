@@ -9,7 +9,7 @@ use mir.Val.{to_z, of_z}
 use mir.Facts.{to_z-of_z}
 
 pub read : (z : ℤ) → mag z < 2 ^ 63 → to_z w64 (of_z w64 z) ≡ z
-read z h = to_z-of_z (record { sfits = h })
+read z h = to_z-of_z {w = w64} (record { sfits = h })
 
 -- What `natural` gives of the bits is what it gives of the number.
 pub natural_read : (z : ℤ) {n : ℕ} → mag z < 2 ^ 63 → n ≡ nat_abs (to_z w64 (of_z w64 z)) → n ≡ nat_abs z

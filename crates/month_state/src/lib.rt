@@ -1,5 +1,6 @@
 // Soils, states, a month's entries and its row by value; a new state, and the total of a state.
 #![tactic(auto)]
+
 ghost use Rattle.std.specs.Prelude.{◌≡◌, ◌<◌, ◌^◌, pos, nat_abs, ◌≤ℤ◌};
 ghost use Rattle.month_state.specs.State.{new_state, five_pools, one_more_kept};
 

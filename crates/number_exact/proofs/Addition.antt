@@ -1,11 +1,10 @@
 -- The addition law: the two parts of the sum for (a + v) / b are binomial means of those for a / b.
 -- Both sides obey the same recurrence in k, which the mean keeps (mean-times, mean-pow). Assumes nothing.
-use mathlib.Core.Path.{◌≡◌, refl, sym, ◌∙◌, ap}
-use mathlib.Core.Bool.{Bool, true, false}
-use Prim.Native.Nat.{ℕ, zero, suc, ◌+◌, ◌*◌, ◌^◌, ◌≤◌, ◌<◌}
-use native.Mathlib.Nat.{pow-suc, pow-zero, zero-add}
+use mathlib.Core.Path.{◌≡◌, refl, ◌∙◌, ap}
+use Prim.Native.Nat.{ℕ, zero, suc, ◌+◌, ◌*◌, ◌^◌}
+use native.Mathlib.Nat.{pow-zero}
 use native.Mathlib.Omega.{arith}
-use Rattle.number_exact.specs.Exponential.{agreeing, opposing, denominator, ends_on_plus}
+use Rattle.number_exact.specs.Exponential.{agreeing, opposing}
 use Rattle.number_exact.proofs.Mean.{mean, times, mean-same, mean-add, mean_scale, mean-pow, mean_times}
 
 module _ (a b v : ℕ) where

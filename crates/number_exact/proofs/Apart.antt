@@ -1,6 +1,5 @@
 -- The definitions fix what they name: two numbers at most d from one value are at most 2 × d apart, and two nearest numbers at most 1.
 -- Assumes nothing.
-use mathlib.Core.Path.{◌≡◌}
 use Prim.Native.Nat.{ℕ, ◌+◌, ◌-◌, ◌*◌, ◌≤◌, ◌<◌}
 use native.Mathlib.Nat.{mul-pos, mul-le-mul_left, le_of_mul-le-mul_left}
 use native.Mathlib.Omega.{arith}

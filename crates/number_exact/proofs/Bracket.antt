@@ -1,9 +1,9 @@
 -- A fraction that brackets e^(-a/b) up to an index: no sum up to there has it on the wrong side.
 -- Such fractions multiply (the addition law), one is there for 1/b, so one is there for every a / b. Assumes nothing.
-use mathlib.Core.Path.{◌≡◌, refl, sym, ◌∙◌, ap, ap₂, subst}
+use mathlib.Core.Path.{◌≡◌, refl, sym, ◌∙◌, ap, ap₂}
 use mathlib.Core.Bool.{Bool, true, false, not}
 use Prim.Native.Nat.{ℕ, zero, suc, ◌+◌, ◌-◌, ◌*◌, ◌^◌, ◌≤◌, ◌<◌}
-use native.Mathlib.Nat.{pow-suc, pow-zero, zero-add, mul-pos, le_trans, le_refl, mul-le-mul_left, mul-le-mul_right, add-zero, add-suc, suc-add, sub-add_cancel, add-sub_of_le}
+use native.Mathlib.Nat.{pow-suc, pow-zero, zero-add, mul-pos, le_trans, mul-le-mul_left, mul-le-mul_right, add-zero, add-suc, suc-add, sub-add_cancel, add-sub_of_le}
 use native.Mathlib.Numerals.{add-one}
 use native.Mathlib.Omega.{arith}
 use Rattle.number_exact.specs.Exponential.{agreeing, opposing, denominator, ends_on_plus}

@@ -1,6 +1,6 @@
 -- The definitions are not empty: what lies at or below e^(-a/b) lies at or below what lies at or above it.
 -- Two neighbouring sums differ by a^k over b^k × k!, and k! outgrows every a^k times a number. Assumes nothing.
-use mathlib.Core.Path.{◌≡◌, refl, sym, ◌∙◌, ap}
+use mathlib.Core.Path.{◌≡◌, refl, ap}
 use mathlib.Core.Bool.{Bool, true, false, not}
 use Prim.Native.Nat.{ℕ, zero, suc, ◌+◌, ◌*◌, ◌^◌, ◌≤◌, ◌<◌}
 use native.Mathlib.Nat.{

@@ -1,7 +1,7 @@
 -- A fraction's sums do not change when its numerator and denominator are multiplied by one number, so neither do the bounds.
 -- Assumes nothing.
 use mathlib.Core.Path.{◌≡◌, ap}
-use Prim.Native.Nat.{ℕ, zero, suc, ◌+◌, ◌*◌, ◌^◌, ◌≤◌, ◌<◌}
+use Prim.Native.Nat.{ℕ, zero, suc, ◌*◌, ◌^◌, ◌<◌}
 use native.Mathlib.Nat.{pow-suc, pow-zero, mul-le-mul_left, le_of_mul-le-mul_left, one-le-pow}
 use native.Mathlib.Omega.{arith}
 use Rattle.number_exact.specs.Exponential.{agreeing, opposing, denominator, AtOrBelow, AtOrAbove}

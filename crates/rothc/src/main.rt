@@ -1,13 +1,14 @@
 // Document 01's program: reads a book from standard input, runs it, and writes its output to
-// standard output. Where it fails, a line on standard error says at what. A Rattle program can't
-// set its exit status: started with an argument, as ./rothc does, this one writes it to descriptor
-// 3, as a digit.
+// standard output. Where it fails, a line on standard error says at what. Started with an argument,
+// as ./rothc does, it writes the exit status of ./rothc to descriptor 3, as a digit.
 #![tactic(auto)]
-ghost use Rattle.std.specs.Prelude.{◌≡◌, ◌≤◌, ◌<◌, length};
+ghost use Rattle.std.specs.Prelude.{◌≡◌, ◌≤◌, ◌<◌, length, IfOk};
 ghost use Rattle.book_report.specs.Report.{book_refused};
 ghost use Rattle.rothc.specs.Status.{status_of};
 
-use libc::{STDIN_FILENO, STDOUT_FILENO};
+use io::write_all;
+use std::env::{Env, FillError};
+use std::io::{Error, ErrorKind, Print, Read};
 
 const STATUS_FILENO: i32 = 3;
 
@@ -15,92 +16,68 @@ const STATUS_FILENO: i32 = 3;
 // signal each microsecond this one takes a quarter of an hour.
 const TRIES: u64 = 1_000_000_000;
 
-// What reading gives: how many bytes came, and whether it failed.
-#[derive(Clone, Copy)]
-struct Input {
-    length: usize,
-    failed: bool,
-}
-
-// Whether a read or a write that gave `got` was interrupted by a signal before it moved a byte.
-fn interrupted(got: isize) -> bool {
-    if got < 0 {
-        os::errno() == libc::EINTR
-    } else {
-        false
+// Whether a read or a write was interrupted by a signal before it moved a byte.
+fn interrupted(got: &Result<usize, Error>) -> bool {
+    match got {
+        Ok(_) => false,
+        Err(e) => e.kind() == ErrorKind::Interrupted,
     }
 }
 
 // Reads once, and again after a signal. No byte comes at the end of the input.
-fn read_once(part: &mut [u8]) -> Input
-    ensures { result.length ≤ length part.old }
+fn read_once<R: Read>(input: &mut R, part: &mut [u8]) -> Result<usize, Error>
+    ensures { IfOk result (λ n. n ≤ length part.new) }
 {
-    let mut got = libc::read(STDIN_FILENO, part);
-    let mut tries: u64 = 0;
-    while tries < TRIES {
-        if !interrupted(got) {
+    let mut got = input.read(part);
+    for _ in 0..TRIES {
+        if !interrupted(&got) {
             break;
         }
-        got = libc::read(STDIN_FILENO, part);
-        tries += 1;
+        got = input.read(part);
     }
-    Input {
-        length: io::count(got, part),
-        failed: got < 0,
-    }
+    got
 }
 
 // Reads to the end of the input, in pieces of any length, or until the slice is full.
-fn read_book(book: &mut [u8]) -> Input
-    ensures { result.length ≤ length book.old }
+fn read_book<R: Read>(input: &mut R, book: &mut [u8]) -> Result<usize, Error>
+    ensures { IfOk result (λ n. n ≤ length book.new) }
 {
     let mut length: usize = 0;
     while length < book.len() {
-        let piece = read_once(&mut book[length..]);
-        if piece.failed {
-            return Input {
-                length,
-                failed: true,
-            };
-        }
-        if piece.length == 0 {
+        let piece = read_once(input, &mut book[length..])?;
+        if piece == 0 {
             break;
         }
-        length += piece.length;
+        length += piece;
     }
-    Input {
-        length,
-        failed: false,
-    }
+    Ok(length)
 }
 
-// Writes once, and again after a signal. Gives how many bytes were taken: none where it failed.
-fn write_once(fd: i32, part: &[u8]) -> usize
-    ensures { result ≤ length part.now }
+// Writes once, and again after a signal. Gives how many bytes were taken.
+fn write_once<W: Print>(out: &W, part: &[u8]) -> Result<usize, Error>
+    ensures { IfOk result (λ n. n ≤ length part.now) }
 {
-    let mut got = libc::write(fd, part);
-    let mut tries: u64 = 0;
-    while tries < TRIES {
-        if !interrupted(got) {
+    let mut got = out.write_some(part);
+    for _ in 0..TRIES {
+        if !interrupted(&got) {
             break;
         }
-        got = libc::write(fd, part);
-        tries += 1;
+        got = out.write_some(part);
     }
-    io::count(got, part)
+    got
 }
 
-// Writes all of a text, in pieces of any length, and gives whether all of it was taken.
-fn write_whole(fd: i32, text: &[u8]) -> bool {
+// Writes all of a text, in pieces of any length, or fails. A write that takes nothing is a failure.
+fn write_whole<W: Print>(out: &W, text: &[u8]) -> Result<(), Error> {
     let mut done: usize = 0;
     while done < text.len() {
-        let taken = write_once(fd, &text[done..]);
+        let taken = write_once(out, &text[done..])?;
         if taken == 0 {
-            return false;
+            return Err(Error::from(ErrorKind::WriteZero));
         }
         done += taken;
     }
-    true
+    Ok(())
 }
 
 // The exit status, by whether an output was written whole and whether it is a refusal.
@@ -114,6 +91,28 @@ fn status(whole: bool, refused: bool) -> u8
     }
 }
 
+// Says on standard error what failed, in the system's words, which end where its number begins.
+fn say(rt: &HostRuntime, what: &str, why: Error) -> Result<(), Error> {
+    let text = format!(in rt.alloc(); "{why}")?;
+    let words = match text.as_str().split_once(" (os error") {
+        Some((words, _number)) => words,
+        None => text.as_str(),
+    };
+    eprintln!(rt; "rothc: {what}: {words}")
+}
+
+// Writes all of a text to standard output, and gives whether all of it was taken. Where it was not,
+// that is said.
+fn wrote(rt: &HostRuntime, text: &[u8]) -> bool {
+    match write_whole(rt, text) {
+        Ok(()) => true,
+        Err(why) => {
+            let _said = say(rt, "standard output", why);
+            false
+        }
+    }
+}
+
 // What running a book came to: whether its output was written whole, and the exit status.
 #[derive(Clone, Copy)]
 struct Ran {
@@ -122,40 +121,40 @@ struct Ran {
 }
 
 // Runs a book and writes its output.
-fn run(book: &[u8]) -> Ran
+fn run(rt: &HostRuntime, book: &[u8]) -> Ran
     ensures { result.status ≡ status_of result.whole (book_refused book.now) }
 {
     let mut out = [0u8; 204_800];
     let written = book_report::report(book, &mut out);
     let length = written.length;
-    let whole = write_whole(STDOUT_FILENO, &out[..length]);
-    if !whole {
-        os::fail(b"rothc: standard output");
-    }
+    let whole = wrote(rt, &out[..length]);
     let status = status(whole, written.refused);
     Ran { whole, status }
 }
 
 // Hands the exit status to ./rothc, where that started the program.
-fn tell(status: u8)
+fn tell(rt: &HostRuntime, status: u8)
     requires { status < 10 }
 {
-    if os::arg_count() > 1 {
-        write_whole(STATUS_FILENO, &[b'0' + status]);
+    let mut argument = [0u8; 1];
+    if let Err(FillError::NotPresent) = rt.arg(1, &mut argument) {
+        return;
     }
+    write_all(STATUS_FILENO, &[b'0' + status]);
 }
 
 // Where reading fails nothing is written. The array's last byte is the first one past the 65,536
 // that a book may have.
-fn main() {
+fn main(rt: HostRuntime) {
     let mut book = [0u8; 65_537];
-    let input = read_book(&mut book);
-    if input.failed {
-        os::fail(b"rothc: standard input");
-        tell(status(false, false));
-        return;
+    match read_book(&mut rt.stdin(), &mut book) {
+        Ok(length) => {
+            let ran = run(&rt, &book[..length]);
+            tell(&rt, ran.status);
+        }
+        Err(why) => {
+            let _said = say(&rt, "standard input", why);
+            tell(&rt, status(false, false));
+        }
     }
-    let length = input.length;
-    let ran = run(&book[..length]);
-    tell(ran.status);
 }

@@ -1,6 +1,7 @@
 // Step 4 for the four pools and step 5 of document 01, by value: survival numbers, what the pools
 // keep and lose, what the losses form.
 #![tactic(auto)]
+
 ghost use Rattle.std.specs.Prelude.{◌≡◌, ◌≤◌, ◌<◌, ◌^◌, get_or};
 ghost use Rattle.step_pools.specs.Pools.{total};
 ghost use Rattle.step_decay.specs.Decay.{Survivals, lost, losses, formed, carbon_dioxide};

@@ -1,6 +1,7 @@
 // Steps 1 and 2 of document 01: the temperature factor A and the clay number R, from tables whose
 // rule is proved at every entry.
 #![tactic(auto)]
+
 mod clay_table;
 mod temperature_table;
 

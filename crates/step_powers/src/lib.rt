@@ -1,5 +1,6 @@
 // The powers e^(-i/32), from a table whose rule is proved at every entry.
 #![tactic(auto)]
+
 ghost use Rattle.std.specs.Prelude.{◌≡◌, ◌<◌};
 ghost use Rattle.number_exact.specs.Exponential.{AtMostFrom};
 ghost use Rattle.step_powers.specs.Powers.{power_at};

@@ -1,5 +1,6 @@
 // Step 4 of document 01: the rate number N, and the survival number S(N, K) in integers of 64 bits.
 #![tactic(auto)]
+
 ghost use Rattle.std.specs.Prelude.{◌≡◌, ◌+◌, ◌*◌, ◌/◌, ◌^◌, ◌≤◌, ◌<◌};
 ghost use Rattle.step_survival.specs.Series.{term, series, term_count};
 ghost use Rattle.step_survival.specs.Survival.{rate_number, parts, survival_at};

@@ -5,7 +5,10 @@
 ghost use Rattle.std.specs.Prelude.{◌≤◌, ◌<◌, length};
 
 use book_values::{Value, byte_is, read_value};
-use libc::{STDIN_FILENO, STDOUT_FILENO};
+
+const STDIN_FILENO: i32 = 0;
+
+const STDOUT_FILENO: i32 = 1;
 
 // Runs a book and writes its output. Answers whether it was written.
 fn run_one(book: &[u8]) -> bool {

@@ -4,8 +4,9 @@
 #![tactic(auto)]
 mod call;
 
-use libc::STDIN_FILENO;
 use test_lines::fault;
+
+const STDIN_FILENO: i32 = 0;
 
 // The calls of a text in turn. One that departs from the form ends the run.
 fn calls(text: &[u8]) {

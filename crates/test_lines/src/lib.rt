@@ -3,8 +3,9 @@
 ghost use Rattle.std.specs.Prelude.{◌≡◌, ◌+◌, ◌≤◌, length};
 
 use book_digits::write_decimal;
-use libc::STDOUT_FILENO;
 use test_numbers::distance;
+
+const STDOUT_FILENO: i32 = 1;
 
 // The line for an input that departs from the form.
 pub fn fault() {

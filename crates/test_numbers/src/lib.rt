@@ -1,6 +1,7 @@
 // Numbers read at a place of the text. A fault gives the place after the text's last byte, where
 // nothing more can be read and no line ends: so a line is tested for faults once, at its end.
 #![tactic(auto)]
+
 ghost use Rattle.std.specs.Prelude.{◌≡◌, ◌≤◌, length, take};
 
 // A number, and the place after it.
