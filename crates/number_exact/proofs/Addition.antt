@@ -1,5 +1,5 @@
 -- The addition law: the two parts of the sum for (a + v) / b are binomial means of those for a / b.
--- Both sides obey the same recurrence in k, which the mean keeps (mean-times, mean-pow). Assumes nothing.
+-- Both sides obey the same recurrence in k, which the mean keeps (mean_times, mean-pow). Assumes nothing.
 use mathlib.Core.Path.{◌≡◌, refl, ◌∙◌, ap}
 use Prim.Native.Nat.{ℕ, zero, suc, ◌+◌, ◌*◌, ◌^◌}
 use native.Mathlib.Nat.{pow-zero}

@@ -1,6 +1,7 @@
 // The radiocarbon age of modern grams in carbon, change 2026-04 of document 02, found by halves:
 // survival numbers never rise with the age.
 #![tactic(auto)]
+
 ghost use Rattle.std.specs.Prelude.{true, ◌≡◌, ◌≤◌};
 ghost use Rattle.step_survival.specs.Ages.{age_limit};
 ghost use Rattle.radiocarbon_age.specs.Age.{does, age_of, Smallest, Means};

@@ -2,6 +2,7 @@
 // standard output. Where it fails, a line on standard error says at what. Started with an argument,
 // as ./rothc does, it writes the exit status of ./rothc to descriptor 3, as a digit.
 #![tactic(auto)]
+
 ghost use Rattle.std.specs.Prelude.{◌≡◌, ◌≤◌, ◌<◌, length, IfOk};
 ghost use Rattle.book_report.specs.Report.{book_refused};
 ghost use Rattle.rothc.specs.Status.{status_of};
@@ -15,6 +16,8 @@ const STATUS_FILENO: i32 = 3;
 // How many times in a row a call is made again after a signal: every loop has to end, and at a
 // signal each microsecond this one takes a quarter of an hour.
 const TRIES: u64 = 1_000_000_000;
+
+const STATUS_TRIES: u64 = 1_000;
 
 // Whether a read or a write was interrupted by a signal before it moved a byte.
 fn interrupted(got: &Result<usize, Error>) -> bool {
@@ -93,12 +96,11 @@ fn status(whole: bool, refused: bool) -> u8
 
 // Says on standard error what failed, in the system's words, which end where its number begins.
 fn say(rt: &HostRuntime, what: &str, why: Error) -> Result<(), Error> {
-    let text = format!(in rt.alloc(); "{why}")?;
-    let words = match text.as_str().split_once(" (os error") {
-        Some((words, _number)) => words,
-        None => text.as_str(),
-    };
-    eprintln!(rt; "rothc: {what}: {words}")
+    let mut words = format!(in rt.alloc(); "rothc: {what}: {why}")?;
+    if let Some(end) = words.as_str().find(" (os error") {
+        words.truncate(end);
+    }
+    eprintln!(rt; "{words}")
 }
 
 // Writes all of a text to standard output, and gives whether all of it was taken. Where it was not,
@@ -132,7 +134,8 @@ fn run(rt: &HostRuntime, book: &[u8]) -> Ran
     Ran { whole, status }
 }
 
-// Hands the exit status to ./rothc, where that started the program.
+// Hands the exit status to ./rothc, where that started the program. A write that fails is made
+// again, since a signal may have interrupted it: the answer doesn't say which.
 fn tell(rt: &HostRuntime, status: u8)
     requires { status < 10 }
 {
@@ -140,7 +143,11 @@ fn tell(rt: &HostRuntime, status: u8)
     if let Err(FillError::NotPresent) = rt.arg(1, &mut argument) {
         return;
     }
-    write_all(STATUS_FILENO, &[b'0' + status]);
+    for _ in 0..STATUS_TRIES {
+        if write_all(STATUS_FILENO, &[b'0' + status]) {
+            return;
+        }
+    }
 }
 
 // Where reading fails nothing is written. The array's last byte is the first one past the 65,536

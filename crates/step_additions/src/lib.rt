@@ -1,5 +1,6 @@
 // Additions, step 6 of document 01, on four pools by value.
 #![tactic(auto)]
+
 ghost use Rattle.std.specs.Prelude.{◌≡◌, ◌+◌, ◌≤◌, ◌<◌, ◌^◌};
 ghost use Rattle.step_pools.specs.Pools.{total};
 ghost use Rattle.step_additions.specs.Additions.{plant_to_dpm, manure_to_dpm, manure_to_hum, added};

@@ -1,6 +1,7 @@
 // Modern grams, change 2026-04 of document 02: those of carbon of an activity, and a month's
 // radioactive loss in four pools by value.
 #![tactic(auto)]
+
 ghost use Rattle.std.specs.Prelude.{◌≡◌, ◌≤◌};
 ghost use Rattle.step_modern.specs.Modern.{modern_grams, month_older, aged};
 
