@@ -107,9 +107,9 @@ fn put_result(res: &mut [u64], answer: SpinAnswer)
 // A spin-up of at most so many years. It ends with none kept unless it is refused, and leaves the
 // memory of the kept ones as it was.
 pub fn spin_up(state: &mut [u64], weather: &[i64], land: &[i64], years: u64, res: &mut [u64]) -> u64
-    ensures* { λ r. ⌜ record { number = r; state = state.new; result = res.new }
+    ensures { record { number = result; state = state.new; result = res.new }
         ≡ rothc_spin_up state.old weather.now land.now years
-        res.old ⌝ }
+        res.old }
 {
     if state.len() != FIELD_WIDTH {
         return SHAPE;

@@ -2,6 +2,7 @@
 // lent memory, read and written, how many there are, and the entries of a month. Lists, books and
 // the library use these functions, which alone know how many numbers a row has.
 #![tactic(auto)]
+
 ghost use Rattle.std.specs.Prelude.{◌≡◌, ◌+◌, ◌*◌, ◌%◌, ◌≤◌, ◌<◌, length};
 ghost use Rattle.list_rows.specs.Rows.{weather_width, land_width, entries_width, row_width};
 ghost use Rattle.list_rows.specs.Rows.{weather_from, land_from, entries_of};
@@ -103,6 +104,7 @@ pub fn put_row(out: &mut [u64], j: usize, row: Row)
 }
 
 // 3: whether so many numbers aren't rows of a width, or the rows are outside 1 to 1,200.
+#[tactic(auto, unfolding(crate::specs::Rows::rows_outside))]
 pub fn rows_outside(width: usize, count: usize) -> bool
     requires { 0 < width }
     ensures { result ≡ rows_outside width count }

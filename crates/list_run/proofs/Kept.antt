@@ -2,7 +2,7 @@
 -- Assumes nothing.
 use mathlib.Core.Path.{◌≡◌, refl, sym, ◌∙◌, ap}
 use mathlib.Core.List.{List}
-use Prim.Native.Nat.{ℕ, zero, suc, ◌+◌, ◌-◌}
+use Prim.Native.Nat.{ℕ, zero, suc, ◌+◌}
 use native.Mathlib.Nat.{zero-add}
 use native.Mathlib.Omega.{arith}
 use lib.IntN.{ℤ}
@@ -18,7 +18,6 @@ use Rattle.month_call.proofs.Laws.{single, month-sound}
 use Rattle.kept_months.specs.Kept.{keep, keep_if}
 use Rattle.kept_demand3.specs.Acts.{run_acts, calls}
 use Rattle.list_rows.specs.Rows.{land_rows, entries_at}
-use Rattle.list_run.specs.declared.ListAnswer.TheVariants as answers
 use Rattle.list_run.specs.Run.{Left, months, rows_written, kept_months, run}
 use Rattle.list_run.specs.ListCalls.{list_calls, FieldOfCalls}
 use Rattle.list_run.proofs.Months as courses

@@ -2,6 +2,7 @@
 // of numbers, the rows that the months give written to a lent output, and the states before them
 // kept in lent memory.
 #![tactic(auto)]
+
 ghost use Rattle.std.specs.Prelude.{◌≡◌, ◌++◌, ◌*◌, ◌≤◌, length};
 ghost use Rattle.month_layouts.specs.Layouts.{memory_width};
 ghost use Rattle.list_rows.specs.Rows.{weather_width, land_width, row_width, land_rows};

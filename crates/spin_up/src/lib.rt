@@ -1,6 +1,7 @@
 // Spin-up of document 01: twelve weather and twelve land rows repeated for up to a given number of
 // years, until a year settles.
 #![tactic(auto)]
+
 ghost use Rattle.std.specs.Prelude.{◌≡◌, ◌++◌, ◌*◌, ◌≤◌, length};
 ghost use Rattle.month_state.specs.State.{kept_aside};
 ghost use Rattle.list_rows.specs.Rows.{weather_width, land_width};

@@ -1,6 +1,7 @@
 // Steps 5 and 6 of document 01 on four pools by value: the one function for their carbon and for
 // their modern grams (change 2026-04 of document 02), and a month's turn of both.
 #![tactic(auto)]
+
 ghost use Rattle.std.specs.Prelude.{◌≡◌, ◌+◌, ◌≤◌, ◌<◌, ◌^◌};
 ghost use Rattle.step_pools.specs.Pools.{total};
 ghost use Rattle.step_decay.specs.Decay.{Survivals};

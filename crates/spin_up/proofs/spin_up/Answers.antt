@@ -3,7 +3,6 @@
 use mathlib.Core.Path.{◌≡◌, sym, ◌∙◌}
 use mathlib.Core.List.{List}
 use Prim.Native.Nat.{ℕ}
-use borrow.Author.Rules.{rules}
 use lib.IntN.{ℤ}
 use Rattle.month_state.specs.declared.State.{State}
 use Rattle.month_refusals.specs.declared.Check.{Check}
@@ -17,8 +16,7 @@ use Rattle.spin_up.specs.Reached.{after_years}
 use Rattle.spin_up.proofs.Laws.{Before, before, passes_spin, refuses_spin}
 use Rattle.spin_up.proofs.Refusals.{spin_told_lem, spin_exactly}
 use Rattle.spin_up.proofs.Reached.{years_reached}
-use Rattle.spin_up.proofs.spin_up.Statement.{statement}
-use Rattle.spin_up.proofs.spin_up.Tie as tie
+use Rattle.spin_up.proofs.spin_up.Goals as goal
 
 -- What the contract promises of an outcome, all of it of the definition's own.
 module _ (s : State) (weather land : List ℤ) (allowed : ℕ) where
@@ -44,34 +42,27 @@ module _ (s : State) (weather land : List ℤ) (allowed : ℕ) where
     refused : {refusal : Refusal} → check ≡ Refuse refusal → Promised (record { answer = Refused refusal 0; state = s })
     refused refuses = promised (refuses_spin s weather land allowed (sym finds.first ∙ refuses))
 
-check-spin-up-requires : tie.Need-check-spin-up-requires
-check-spin-up-requires c κs = search rules
+pub run_years-requires : goal.run_years-requires
+run_years-requires c =
+    let b = passes _ _ _ _ c.check_spin_up.ensures c.in-Pass.is in
+    record { state = b.state; rows = (b.twelve_weather, b.twelve_land); years = b.most }
 
-enum_told : tie.Need-enum-told
-enum_told c = search rules
+pub returns-in-Pass : goal.returns-in-Pass
+returns-in-Pass c =
+    let all = ran _ _ _ _ c.check_spin_up.ensures c.in-Pass.is c.run_years.ensures in
+    record {
+      outcome = all.0;
+      told = all.1.0;
+      exactly = all.1.1.0;
+      years = all.1.1.1;
+    }
 
-run-years-requires : tie.Need-run-years-requires
-run-years-requires c κs =
-    let b = passes _ _ _ _ c.before.before.check-spin-up.ensures c.enum_told.given.1 in
-    (b.state, ((b.twelve_weather, b.twelve_land), b.most))
-
-enum-known-refusal : tie.Need-enum-known-refusal
-enum-known-refusal c = search rules
-
-returns : tie.Need-returns
-returns c =
-    ran _ _ _ _ c.before.before.before.check-spin-up.ensures c.before.enum_told.given.1 c.run-years.ensures
-
-returns_2 : tie.Need-returns-2
-returns_2 c = refused _ _ _ _ c.before.before.before.check-spin-up.ensures c.before.refusal.given.1
-
-pub spin_up_spec : {M : Type 1} → statement M
-spin_up_spec =
-    tie.close
-    (tie.spec
-    check-spin-up-requires
-    enum_told
-    run-years-requires
-    enum-known-refusal
-    returns
-    returns_2)
+pub returns-in-Refuse : goal.returns-in-Refuse
+returns-in-Refuse c =
+    let all = refused _ _ _ _ c.check_spin_up.ensures c.in-Refuse.is in
+    record {
+      outcome = all.0;
+      told = all.1.0;
+      exactly = all.1.1.0;
+      years = all.1.1.1;
+    }
