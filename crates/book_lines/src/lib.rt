@@ -1,6 +1,7 @@
 // The lines of document 01's book on a byte slice: heads, and lines of values with one space
 // between them, each ended by byte 10. specs/Lines.antt says what each function gives.
 #![tactic(auto)]
+
 ghost use Rattle.std.specs.Prelude.{◌≡◌};
 ghost use Rattle.book_lines.specs.Lines.{bytes_are, spaced_value, ended, head_line};
 ghost use Rattle.book_lines.specs.Lines.{soil_line, weather_line, land_line};

@@ -1,6 +1,7 @@
 // A book in, the program's output out: the book is run and its answer written, as bytes, to a lent
 // array. specs/Report.antt says what is written, and whether it is a refusal.
 #![tactic(auto)]
+
 ghost use Rattle.std.specs.Prelude.{◌≡◌, ◌≤◌, length};
 ghost use Rattle.book_digits.specs.Digits.{overwritten};
 ghost use Rattle.book_report.specs.Report.{months_run, output_of, report_of};

@@ -2,6 +2,7 @@
 // first that is malformed and then run as step 7's months. specs/Book.antt says what each function
 // gives.
 #![tactic(auto)]
+
 ghost use Rattle.std.specs.Prelude.{◌≡◌, ◌+◌, ◌*◌, ◌≤◌, ◌<◌, length};
 ghost use Rattle.list_rows.specs.Rows.{weather_width};
 ghost use Rattle.month_refusals.specs.declared.Check.TheVariants.{Pass};

@@ -1,6 +1,7 @@
 // The values of document 01's book, read at a place of a byte slice. specs/Values.antt says what
 // each function gives.
 #![tactic(auto)]
+
 ghost use Rattle.std.specs.Prelude.{◌≡◌, cond, ℕ, ◌^◌, ◌≤◌, ◌<◌, length};
 ghost use Rattle.book_values.specs.Values.{is_digit, byte_is, more_digits, read_value};
 ghost use Rattle.book_values.specs.Values.{without_minus, after_minus, read_signed};

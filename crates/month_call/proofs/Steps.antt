@@ -4,12 +4,14 @@
 use mathlib.Core.Path.{◌≡◌, refl, sym}
 use mathlib.Core.Bool.{Bool, true, false}
 use mathlib.Core.List.{List}
-use Prim.Native.Nat.{ℕ, ◌+◌, ◌≤◌, ◌<◌}
+use Prim.Native.Nat.{ℕ, ◌+◌, ◌≤◌, ◌<◌, ◌^◌}
 use native.Mathlib.Nat.{mul-le-mul}
 use native.Mathlib.Omega.{arith}
-use lib.Dec.{lit≤}
+use lib.Dec.{lit≤, leb→le}
 use lib.IntN.{ℤ, pos, negsuc, nat_abs}
 use lib.Signed.{lt_z, ◌≤ℤ◌}
+use mir.Syntax.{w64}
+use mir.Val.{to_z, of_z}
 use Rattle.number_units.specs.declared.Grams.{Grams}
 use Rattle.step_factors.specs.Factors.{temperature_factor, clay_number}
 use Rattle.step_factors.proofs.Laws.{clay-most}
@@ -21,12 +23,23 @@ use Rattle.step_decay.specs.Rates.{survivals}
 use Rattle.step_pools.specs.Pools.{total}
 use Rattle.step_decay.specs.Decay.{Survivals}
 use Rattle.step_turnover.proofs.Laws.{turned_balance, modern_turned_most}
+use Rattle.month_state.proofs.Signed.{read}
 use Rattle.month_state.specs.declared.Soil.{Soil}
 use Rattle.month_state.specs.declared.State.{State}
 use Rattle.month_state.specs.declared.Land.{Land}
 use Rattle.month_state.specs.declared.Entries.{Entries}
-use Rattle.month_refusals.proofs.Accepted.{SoundSoil, Sound, LandReady, Ready, natural_most}
+use Rattle.month_refusals.proofs.Accepted.{SoundSoil, Sound, LandReady, Ready, Between, natural_most}
 use Rattle.month_call.specs.Month.{crop, largest_deficit, deficit_after, rate_after, next_deficit, next_rate, pools_after, gas_of, modern_after}
+
+-- An entry in its range goes to a call as bits, and is read back as the same number: one from 0 to k, ..
+pub natural_back : (k : ℕ) (z : ℤ) → k < 2 ^ 63 → Between (pos 0) (pos k) z → to_z w64 (of_z w64 z) ≡ z
+natural_back k (pos n) small h = let m = leb→le n k h.to.le in read (pos n) (omega (arith, m, small))
+natural_back k (negsuc n) small h = absurd h.from.le
+
+-- .. and a temperature.
+pub temperature_back : (t : ℤ) → Between (negsuc 399) (pos 500) t → to_z w64 (of_z w64 t) ≡ t
+temperature_back (pos n) h = let m = leb→le n 500 h.to.le in read (pos n) (omega (arith, m))
+temperature_back (negsuc n) h = let m = leb→le n 399 h.from.le in read (negsuc n) (omega (arith, m))
 
 temperature_by : (t : ℤ) (b : Bool) → lt_z t (negsuc 49) ≡ b → t ≤ℤ pos 500 → temperature_factor t ≤ 83639
 temperature_by t true low high = rw (sym (below_table t low).0) (lit≤ tt)

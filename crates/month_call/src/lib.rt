@@ -1,6 +1,7 @@
 // The single month call of document 01: a state and a month's entries by value, the next state or a
 // refusal.
 #![tactic(auto)]
+
 ghost use Rattle.std.specs.Prelude.{◌≡◌, ◌+◌, ◌≤◌, ◌<◌, ◌^◌, nat_abs};
 ghost use Rattle.month_state.specs.declared.Entries.{Entries};
 ghost use Rattle.month_refusals.specs.declared.Check.TheVariants.{Pass};

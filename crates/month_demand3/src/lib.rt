@@ -1,6 +1,7 @@
 // Lists of single month calls, the exact recurrence of document 01, and demand 3: definitions and
 // their theorem, and the single month call with demand 3 in its promise.
 #![tactic(auto)]
+
 ghost use Rattle.std.specs.Prelude.{◌≡◌};
 ghost use Rattle.month_refusals.specs.Asked.{at, told, Exactly};
 ghost use Rattle.month_refusals.specs.Refusals.{month_asked};

@@ -1,0 +1,79 @@
+-- `book_run::land_section` meets its contract: the front of the array that is lent to the months is the numbers that were read.
+-- Assumes nothing.
+use mathlib.Core.Path.{◌≡◌, sym, ◌∙◌, ap}
+use mathlib.Core.List.{List}
+use Prim.Native.Nat.{ℕ, ◌+◌, ◌*◌, ◌≤◌}
+use native.Mathlib.Omega.{arith}
+use lib.IntN.{ℤ}
+use lib.ListN.{length, take}
+use Rattle.month_state.specs.declared.State.{State}
+use Rattle.month_refusals.specs.Refusals.{state_check}
+use Rattle.list_rows.specs.Rows.{land_width, land_rows}
+use Rattle.list_run.specs.Run.{Left, months}
+use Rattle.list_run.proofs.Months.{course, place_in, months-sound}
+use Rattle.book_rows.specs.Rows.{RowsRead, begun_with, read_land}
+use Rattle.book_rows.proofs.Laws.{front, land_some}
+use Rattle.book_run.specs.declared.BookAnswer.{BookAnswer}
+use Rattle.book_run.specs.Book.{after_rows, after_months, land_months, land_section}
+use Rattle.book_run.proofs.land_section.Goals as goal
+
+-- What the months leave, and the answer after them, are the section.
+section_is :
+    (count : ℕ) (s : List ℕ) (place head : ℕ) (weather : List ℤ) (state : State) (rows : List ℕ) {left : Left} {answer : BookAnswer}
+    → left ≡ land_months (read_land count s place (head + 1)) weather state rows
+    → answer
+    ≡ after_months left.outcome.answer head
+    (after_rows (read_land count s place (head + 1)).ends s (head + 1 + count) count left.outcome.state)
+    → record { answer = answer; rows = left.output } ≡ land_section count s place head weather state rows
+unfolding land_section
+section_is count s place head weather state rows ran is = rw (is, ran)
+
+-- at most as many rows were read as there are
+few : (count : ℕ) (s : List ℕ) (place line rows : ℕ) → land_width * rows ≡ length (read_land count s place line).numbers → rows ≤ count
+few count s place line rows size =
+    let some = land_some count s place line in
+    omega (arith, size, some.most, some.size)
+
+-- what the months leave: the front of the array is the numbers that were read, and has the rows that were read
+left_is :
+    (read : RowsRead) (weather : List ℤ) (state : State) (out : List ℕ) (rows : ℕ) (old new : List ℤ) {left : Left}
+    → land_width * rows ≡ length read.numbers → new ≡ begun_with old read.numbers
+    → left ≡ months rows weather (take (land_width * rows) new) 0 state out → left ≡ land_months read weather state out
+left_is read weather state out rows old new size begun is =
+    let same : take (land_width * rows) new ≡ read.numbers =
+    ap (take (land_width * rows)) begun ∙ front old read.numbers (land_width * rows) (sym size) in
+    let rows_are : rows ≡ land_rows read.numbers = omega (arith, size) in
+    is ∙ ap (λ (land : List ℤ). months rows weather land 0 state out) same
+    ∙ ap (λ (n : ℕ). months n weather read.numbers 0 state out) rows_are
+
+pub after_rows-requires : goal.after_rows-requires
+after_rows-requires c =
+    ap (λ (l : Left). state_check l.outcome.state) c.run_months-outcome.ensures.left
+    ∙ months-sound _ _ _ _ _ _ c.requires.state
+
+pub overflow_add-result : goal.overflow_add-result
+overflow_add-result c =
+    let a = c.args in
+    let place =
+    place_in (course _ _ _ _ _ _)
+    (sym (ap (λ (l : Left). l.outcome.answer) c.run_months-outcome.ensures.left) ∙ c.in-Refused.is) in
+    omega (arith, place.1, few a.count a.s.now a.place (a.head + 1) _ c.read_land-read.ensures.rows, c.requires.count)
+
+pub returns-in-Finished : goal.returns-in-Finished
+returns-in-Finished c =
+    let a = c.args in
+    let read = c.read_land-read.ensures in
+    let left =
+    left_is (read_land a.count a.s.now a.place (a.head + 1)) a.weather.now a.state a.rows.now _ _ _ read.rows read.numbers
+    c.run_months-outcome.ensures.left in
+    section_is a.count a.s.now a.place a.head a.weather.now a.state a.rows.now left
+    (rw (c.in-Finished.is, ← read.ends) c.after_rows.ensures)
+
+pub returns-in-Refused : goal.returns-in-Refused
+returns-in-Refused c =
+    let a = c.args in
+    let read = c.read_land-read.ensures in
+    let left =
+    left_is (read_land a.count a.s.now a.place (a.head + 1)) a.weather.now a.state a.rows.now _ _ _ read.rows read.numbers
+    c.run_months-outcome.ensures.left in
+    section_is a.count a.s.now a.place a.head a.weather.now a.state a.rows.now left (rw c.in-Refused.is)
