@@ -1,6 +1,7 @@
 // The rows of the book's WEATHER and LAND sections, read from its lines into lent slices of
 // numbers, and a line of weather as a row. specs/Rows.antt says what each function gives.
 #![tactic(auto)]
+
 ghost use Rattle.std.specs.Prelude.{◌≡◌, ◌*◌, ◌≤◌, length};
 ghost use Rattle.list_rows.specs.Rows.{weather_width, land_width};
 ghost use Rattle.book_rows.specs.Rows.{LineFits, as_weather, weather_row, land_row};

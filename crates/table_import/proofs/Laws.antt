@@ -2,7 +2,7 @@
 -- and which refusal is given.
 -- Assumes nothing.
 use mathlib.Core.Path.{◌≡◌, refl, sym, ◌∙◌, ap}
-use mathlib.Core.Bool.{Bool, true, false}
+use mathlib.Core.Bool.{Bool, true}
 use mathlib.Core.List.{List, ◌∷◌}
 use Prim.Native.Nat.{ℕ, ◌*◌, ◌≤◌}
 use native.Mathlib.Omega.{arith}
@@ -15,7 +15,7 @@ use Rattle.month_state.proofs.Tests.{either_false}
 use Rattle.month_refusals.specs.declared.Check.{Check}
 use Rattle.month_refusals.specs.declared.Check.TheVariants.{Pass, Refuse}
 use Rattle.month_refusals.specs.declared.Refusal.TheVariants.{TableForm}
-use Rattle.month_refusals.specs.Asked.{◌if◌, checking_order, part_of, first_of, at, Found, found, told, number_and_place, Exactly}
+use Rattle.month_refusals.specs.Asked.{◌if◌, checking_order, part_of, first_of, Found, found, told, number_and_place, Exactly}
 use Rattle.month_refusals.specs.Refusals.{weather_asked}
 use Rattle.month_refusals.proofs.First.{or_else, found_at, found_then, passes-one, exactly}
 use Rattle.list_rows.specs.Rows.{weather_width}

@@ -1,6 +1,7 @@
 // A weather office's table, change 2026-01 of document 02: bytes in, weather rows of four numbers
 // to a lent output. specs/Table.antt says what each function gives.
 #![tactic(auto)]
+
 ghost use Rattle.std.specs.Prelude.{◌≡◌, ◌*◌, ◌≤◌, length};
 ghost use Rattle.month_refusals.specs.declared.Check.TheVariants.{Pass};
 ghost use Rattle.month_refusals.specs.Asked.{first_of, Finds, told, Exactly};
