@@ -2,7 +2,7 @@
 -- Assumes nothing.
 use mathlib.Core.Path.{◌≡◌, refl, ◌∙◌, ap}
 use mathlib.Core.List.{List, [], ◌∷◌, ◌++◌}
-use Prim.Native.Nat.{ℕ, suc, ◌+◌, ◌-◌, ◌≤◌, ◌<◌}
+use Prim.Native.Nat.{ℕ, suc, ◌+◌, ◌-◌, ◌*◌, ◌≤◌, ◌<◌}
 use native.Mathlib.Omega.{arith}
 use lib.ListN.{length, get_or, set, length-append}
 use Rattle.book_digits.specs.Digits.{overwritten, spaced}
@@ -77,3 +77,46 @@ unfolding row_lines
 no_line_left rows count j h =
     let none : count - j ≡ 0 = omega arith in
     ap (λ (n : ℕ). row_lines n rows j) none
+
+-- ---- a row's numbers, and the months' lines, on their way
+
+-- What is written, with the numbers that are left put after it, is the whole, and each number has taken at most 21 bytes.
+pub record Numbers (out₀ : List ℕ) (at : ℕ) (rows : List ℕ) (from : ℕ) (out : List ℕ) (next k : ℕ) : Type 0 where
+  pub count : k ≤ 7
+  pub rest : Rest out₀ at (numbers 7 rows from) out next (numbers (7 - k) rows (from + k))
+  pub most : next ≤ at + 21 * k
+
+-- A number more.
+pub number_more :
+    {out₀ : List ℕ} {at : ℕ} {rows : List ℕ} {from : ℕ} {out : List ℕ} {place k : ℕ} {out' : List ℕ} {place' : ℕ}
+    → Numbers out₀ at rows from out place k → k < 7
+    → place' ≡ place + length (spaced (get_or rows (from + k) 0)) → out' ≡ overwritten out place (spaced (get_or rows (from + k) 0))
+    → place' ≤ place + 21
+    → Numbers out₀ at rows from out' place' (k + 1)
+number_more {rows} {from} {k} i more ends is few =
+    record {
+      count = omega arith;
+      rest =
+          step (spaced (get_or rows (from + k) 0)) (numbers (7 - (k + 1)) rows (from + (k + 1)))
+          (rw (number-left 7 k rows from more) at i.rest) ends is;
+      most = omega (arith, i.most);
+    }
+
+-- What is written, with the lines that are left put after it, is the whole, and each line has taken at most 168 bytes.
+pub record Lines (out₀ : List ℕ) (at : ℕ) (rows : List ℕ) (count : ℕ) (out : List ℕ) (next j : ℕ) : Type 0 where
+  pub months : j ≤ count
+  pub rest : Rest out₀ at (row_lines count rows 0) out next (row_lines (count - j) rows j)
+  pub most : next ≤ at + 168 * j
+
+-- A line more.
+pub line_more :
+    {out₀ : List ℕ} {at : ℕ} {rows : List ℕ} {count : ℕ} {out : List ℕ} {place j : ℕ} {out' : List ℕ} {place' : ℕ}
+    → Lines out₀ at rows count out place j → j < count
+    → place' ≡ place + length (row_line rows j) → out' ≡ overwritten out place (row_line rows j) → place' ≤ place + 168
+    → Lines out₀ at rows count out' place' (j + 1)
+line_more {rows} {count} {j} i more ends is few =
+    record {
+      months = omega arith;
+      rest = step (row_line rows j) (row_lines (count - (j + 1)) rows (j + 1)) (rw (line_left count j rows more) at i.rest) ends is;
+      most = omega (arith, i.most);
+    }

@@ -2,6 +2,7 @@
 // they are: months, rows of seven, totals, or a refusal's number and line. specs/Output.antt says
 // what is written.
 #![tactic(auto)]
+
 ghost use Rattle.std.specs.Prelude.{◌≡◌, ◌+◌, ◌*◌, ◌≤◌, ◌<◌, length};
 ghost use Rattle.book_digits.specs.Digits.{overwritten, spaced};
 ghost use Rattle.book_output.specs.Output.{numbers, row_line, row_lines, pools_line, named_line};

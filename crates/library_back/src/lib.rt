@@ -1,6 +1,7 @@
 // The body of rothc_take_back: a field's numbers in lent memory. It returns the papers' refusal
 // number, 0 where nothing is refused, and 100 where the field has another length.
 #![tactic(auto)]
+
 ghost use Rattle.std.specs.Prelude.{◌≡◌};
 ghost use Rattle.library_back.specs.Calls.{rothc_take_back};
 
@@ -11,8 +12,7 @@ use month_refusals::refusal_number;
 
 // The latest month taken back.
 pub fn take_back(state: &mut [u64]) -> u64
-    ensures { record { number = result; state = state.new }
-        ≡ rothc_take_back state.old }
+    ensures { record { number = result; state = state.new } ≡ rothc_take_back state.old }
 {
     if state.len() != FIELD_WIDTH {
         return SHAPE;

@@ -1,5 +1,6 @@
 // The body of rothc_book: a book in, the program's output out.
 #![tactic(auto)]
+
 ghost use Rattle.std.specs.Prelude.{◌≡◌};
 ghost use Rattle.book_run.specs.Book.{book_told};
 ghost use Rattle.library_book.specs.Calls.{rothc_book};

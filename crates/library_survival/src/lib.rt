@@ -1,6 +1,7 @@
 // The bodies of rothc_survival and rothc_survival_terms: step 4's survival number of a pool at a
 // rate number.
 #![tactic(auto)]
+
 ghost use Rattle.std.specs.Prelude.{true, ◌≡◌, ◌≤◌};
 ghost use Rattle.library_survival.specs.Calls.{has_survival, rothc_survival};
 ghost use Rattle.library_survival.specs.Calls.{rothc_survival_terms};

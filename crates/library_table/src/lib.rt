@@ -1,5 +1,6 @@
 // The body of rothc_table: a weather office's table in, weather rows out.
 #![tactic(auto)]
+
 ghost use Rattle.std.specs.Prelude.{◌≡◌};
 ghost use Rattle.table_import.specs.Table.{table_told};
 ghost use Rattle.library_table.specs.Calls.{rows_of, rothc_table};

@@ -1,6 +1,7 @@
 // The radiocarbon report on a state, change 2026-04 of document 02: delta and age of a pool, or of
 // all five, whose carbon and modern grams are added first.
 #![tactic(auto)]
+
 ghost use Rattle.std.specs.Prelude.{◌≡◌, true, ◌≤◌, ◌<◌, ◌^◌};
 ghost use Rattle.month_refusals.specs.declared.Check.TheVariants.{Pass};
 ghost use Rattle.month_refusals.specs.Asked.{at, told, Exactly, checking_order, part_of};

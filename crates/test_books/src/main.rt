@@ -2,6 +2,7 @@
 // its length in bytes and then that many bytes. The output of each is written to standard output,
 // one after another. A fault of the framing ends it.
 #![tactic(auto)]
+
 ghost use Rattle.std.specs.Prelude.{◌≤◌, ◌<◌, length};
 
 use book_values::{Value, byte_is, read_value};

@@ -2,6 +2,7 @@
 // each an act of ten numbers. What each returns is written, and then the whole field. The calls
 // are the bodies of the functions for C, which have one line each.
 #![tactic(auto)]
+
 ghost use Rattle.std.specs.Prelude.{◌≡◌, ◌≤◌, length, take};
 
 use list_rows::{ENTRIES_WIDTH, LAND_WIDTH, ROW_WIDTH, WEATHER_WIDTH};

@@ -1,5 +1,5 @@
--- `book_lines::soil_line` meets its contract: its values are read in the definition's order, and the first that is missing makes the line
--- malformed. Assumes nothing.
+-- `book_lines::soil_line` meets its contract: its values are read in the definition's order, and the first that is
+-- missing makes the line malformed. Assumes nothing.
 use mathlib.Core.Path.{sym, ◌∙◌}
 use Rattle.book_lines.specs.declared.SoilLine.{SoilLine}
 use Rattle.book_lines.proofs.Numbers.{soil_row, soil_is, Way, begun, missing, onward, last_missing, finished}

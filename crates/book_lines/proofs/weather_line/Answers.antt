@@ -1,5 +1,6 @@
--- `book_lines::weather_line` meets its contract: its values are read in the definition's order, and the first that is missing makes the line
--- malformed. A temperature that was read is below 10^10, so that it fits 64 bits with a sign. Assumes nothing.
+-- `book_lines::weather_line` meets its contract: its values are read in the definition's order, and the first that is
+-- missing makes the line malformed. A temperature that was read is below 10^10, so that it fits 64 bits with a sign. Assumes
+-- nothing.
 use mathlib.Core.Path.{sym, ◌∙◌}
 use native.Mathlib.Omega.{arith}
 use Rattle.book_values.proofs.Laws.{signed_read}

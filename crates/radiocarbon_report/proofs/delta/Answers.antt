@@ -10,11 +10,9 @@ use lib.IntN.{ℤ, pos, ◌-ℤ◌}
 use mir.Syntax.{w64}
 use mir.Val.{SFits}
 use mir.Facts.{to_z_pos, to_z-of_z}
-use borrow.Author.Rules.{rules}
 use Rattle.step_water.proofs.Signed.{difference_fits}
 use Rattle.radiocarbon_report.specs.Report.{delta}
-use Rattle.radiocarbon_report.proofs.delta.Statement.{statement}
-use Rattle.radiocarbon_report.proofs.delta.Tie as tie
+use Rattle.radiocarbon_report.proofs.delta.Goals as goal
 
 quotient_fits : (modern carbon : ℕ) → modern ≤ 2 ^ 46 → 0 < carbon → SFits w64 (pos (100000 * modern / carbon))
 quotient_fits modern carbon most pos-carbon =
@@ -22,22 +20,13 @@ quotient_fits modern carbon most pos-carbon =
     div-le_of_le-mul carbon (omega (arith, mul-le-mul_left (100000 * modern) pos-carbon)) in
     record { sfits = omega (arith, le, most) }
 
-mul-result : tie.Need-overflow-mul-result
-mul-result c = search rules
+pub overflow_cast-result : goal.overflow_cast-result
+overflow_cast-result c = quotient_fits c.args.modern c.args.carbon c.requires.0 c.requires.1
 
-div-result : tie.Need-nonzero-div-result
-div-result c = search rules
+pub overflow_sub-result : goal.overflow_sub-result
+overflow_sub-result c =
+    rw (to_z_pos w64 (overflow_cast-result c).sfits) (difference_fits _ 100000 (overflow_cast-result c).sfits (lit< tt))
 
-cast-result : tie.Need-overflow-cast-result
-cast-result c = quotient_fits c.args.modern c.args.carbon c.requires.0 c.requires.1
-
-sub-result : tie.Need-overflow-sub-result
-sub-result c =
-    rw (to_z_pos w64 (cast-result c).sfits) (difference_fits _ 100000 (cast-result c).sfits (lit< tt))
-
-returns : tie.Need-returns
+pub returns : goal.returns
 unfolding delta
-returns c = to_z-of_z (sub-result c) ∙ ap (λ (z : ℤ). z -ℤ pos 100000) (to_z_pos w64 (cast-result c).sfits)
-
-pub delta_spec : {M : Type 1} → statement M
-delta_spec = tie.close (tie.spec mul-result div-result cast-result sub-result returns)
+returns c = to_z-of_z (overflow_sub-result c) ∙ ap (λ (z : ℤ). z -ℤ pos 100000) (to_z_pos w64 (overflow_cast-result c).sfits)
