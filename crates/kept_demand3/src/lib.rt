@@ -1,6 +1,7 @@
 // Demand 3 with months taken back, change 2026-02 of document 02: lists of single month calls and
 // takings-back, their theorem, and both calls with it in their promises.
 #![tactic(auto)]
+
 ghost use Rattle.std.specs.Prelude.{◌≡◌, length};
 ghost use Rattle.month_layouts.specs.Layouts.{memory_width};
 ghost use Rattle.month_refusals.specs.Asked.{at, told, Exactly};

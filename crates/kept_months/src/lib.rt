@@ -1,6 +1,7 @@
 // Taking a month back, change 2026-02 of document 02: a month that keeps the state before it in
 // lent memory, and the taking back of the latest one.
 #![tactic(auto)]
+
 ghost use Rattle.std.specs.Prelude.{◌≡◌, ◌<◌, length};
 ghost use Rattle.month_layouts.specs.Layouts.{memory_width};
 ghost use Rattle.month_refusals.specs.Asked.{at, told, Exactly, Finds};
@@ -61,6 +62,7 @@ pub fn month(s: State, number: u64, e: Entries, memory: &mut [u64]) -> Outcome
 }
 
 // 20, then 10 for the kept count.
+#[tactic(auto, unfolding(crate::specs::Kept::take_asked, month_refusals::specs::Asked::first_of, month_refusals::specs::Asked::at, month_refusals::specs::Asked::found))]
 fn check_taking(s: State) -> Check
     ensures { Finds (take_asked s) result }
 {

@@ -1,6 +1,7 @@
 // The functions of include/rothc.h, for Rust and for the tests: each is its body's, in a crate beside
 // this one, where its wrong programs are tried. library_calls_c has them for C and Python.
 #![tactic(auto)]
+
 ghost use Rattle.std.specs.Prelude.{true, ◌≡◌, ◌≤◌};
 ghost use Rattle.library_survival.specs.Calls.{has_survival, rothc_survival, rothc_survival_terms};
 ghost use Rattle.library_month.specs.Calls.{rothc_start, rothc_month};
@@ -31,12 +32,7 @@ pub fn rothc_start(soil: &[u64], state: &mut [u64]) -> u64
     library_month::start(soil, state)
 }
 
-pub fn rothc_month(
-    state: &mut [u64],
-    number: u64,
-    entries: &[i64],
-    row: &mut [u64],
-) -> u64
+pub fn rothc_month(state: &mut [u64], number: u64, entries: &[i64], row: &mut [u64]) -> u64
     ensures { record { number = result; state = state.new; row = row.new }
         ≡ rothc_month state.old number entries.now row.old }
 {
@@ -103,12 +99,7 @@ pub fn rothc_book(book: &[u8], out: &mut [u8], length: &mut u64) -> u64
     library_book::book(book, out, length)
 }
 
-pub fn rothc_table(
-    table: &[u8],
-    weather: &mut [i64],
-    rows: &mut u64,
-    place: &mut u64,
-) -> u64
+pub fn rothc_table(table: &[u8], weather: &mut [i64], rows: &mut u64, place: &mut u64) -> u64
     ensures { record {
       number = result;
       weather = weather.new;

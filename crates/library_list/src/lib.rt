@@ -2,6 +2,7 @@
 // call returns the papers' refusal number, 0 where nothing is refused, and 100 where memory of a
 // fixed layout has another length.
 #![tactic(auto)]
+
 ghost use Rattle.std.specs.Prelude.{◌≡◌, length};
 ghost use Rattle.list_run.specs.Run.{list_told};
 ghost use Rattle.spin_up.specs.SpinUp.{spin_told};
@@ -46,8 +47,7 @@ pub fn list(
       rows = rows.new;
       place = place.new;
     }
-        ≡ rothc_list state.old weather.now land.now
-        rows.old place.old }
+        ≡ rothc_list state.old weather.now land.now rows.old place.old }
 {
     if state.len() != FIELD_WIDTH {
         return SHAPE;
@@ -108,8 +108,7 @@ fn put_result(res: &mut [u64], answer: SpinAnswer)
 // memory of the kept ones as it was.
 pub fn spin_up(state: &mut [u64], weather: &[i64], land: &[i64], years: u64, res: &mut [u64]) -> u64
     ensures { record { number = result; state = state.new; result = res.new }
-        ≡ rothc_spin_up state.old weather.now land.now years
-        res.old }
+        ≡ rothc_spin_up state.old weather.now land.now years res.old }
 {
     if state.len() != FIELD_WIDTH {
         return SHAPE;

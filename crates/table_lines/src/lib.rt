@@ -1,6 +1,7 @@
 // The lines of a weather office's table on a byte slice: month;temperature;rain;evapotranspiration,
 // each ended by byte 10. specs/Lines.antt says what each function gives.
 #![tactic(auto)]
+
 ghost use Rattle.std.specs.Prelude.{◌≡◌};
 ghost use Rattle.table_lines.specs.Lines.{read_tenths, read_signed_tenths};
 ghost use Rattle.table_lines.specs.Lines.{next_tenths, next_signed, table_line, line_count};
@@ -63,6 +64,7 @@ fn next_signed(s: &[u8], at: usize) -> Signed
 }
 
 // The line of this number: its temperature, rain and evapotranspiration in tenths.
+#[tactic(auto, unfolding(crate::specs::Lines::table_line, crate::specs::Lines::numbered))]
 pub fn table_line(s: &[u8], at: usize, number: u64) -> WeatherLine
     ensures { result ≡ table_line s.now at number }
 {
