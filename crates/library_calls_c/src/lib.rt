@@ -2,6 +2,7 @@
 // library_calls, with the same promise. An export can only be of its own crate, and a crate that
 // other crates use is no library for C.
 #![tactic(auto)]
+
 ghost use Rattle.std.specs.Prelude.{true, ◌≡◌, ◌≤◌};
 ghost use Rattle.library_survival.specs.Calls.{has_survival, rothc_survival, rothc_survival_terms};
 ghost use Rattle.library_month.specs.Calls.{rothc_start, rothc_month};

@@ -2,6 +2,7 @@
 // call returns the papers' refusal number, 0 where nothing is refused, and 100 where memory of a
 // fixed layout has another length.
 #![tactic(auto)]
+
 ghost use Rattle.std.specs.Prelude.{◌≡◌};
 ghost use Rattle.library_month.specs.Calls.{rothc_start, rothc_month};
 

@@ -1,6 +1,7 @@
 // The bodies of rothc_radiocarbon and rothc_age_survival: the radiocarbon report on a field's
 // numbers in lent memory, and the survival numbers that its ages are found by.
 #![tactic(auto)]
+
 ghost use Rattle.std.specs.Prelude.{◌≡◌, ℕ, ◌≤◌, length};
 ghost use Rattle.step_survival.specs.Ages.{age_limit};
 ghost use Rattle.radiocarbon_age.specs.declared.Age.TheVariants.{Years};
