@@ -2,6 +2,7 @@
 // and writes what each returns and leaves in lent memory. The calls, `stdin`, and what must be
 // written, `stdout`, are made by the reference and not by this program.
 #![tactic(auto)]
+
 mod call;
 
 use test_lines::fault;
