@@ -21,6 +21,7 @@ pub enum Signed {
 }
 
 // Whether a byte is a digit.
+#[tactic(auto, using(crate::proofs::Reading::digit_below), unfolding(crate::specs::Values::is_digit))]
 pub fn is_digit(byte: u8) -> bool
     ensures { result ≡ is_digit byte }
 {
@@ -64,6 +65,7 @@ fn more_digits(s: &[u8], at: usize, first: u64) -> Value
 }
 
 // The value at a place of the text.
+#[tactic(auto, using(crate::proofs::Reading::value_zero, crate::proofs::Reading::value_digit))]
 pub fn read_value(s: &[u8], at: usize) -> Value
     ensures { result ≡ read_value s.now at }
 {
@@ -82,6 +84,7 @@ pub fn read_value(s: &[u8], at: usize) -> Value
 }
 
 // A value that was read after a minus, or without one. It fits 64 bits with a sign.
+#[tactic(auto, using(crate::proofs::Minus::minus_zero, crate::proofs::Minus::minus_some))]
 pub fn with_sign(minus: bool, value: Value) -> Signed
     requires { (n next : ℕ) → value ≡ Value.Number n next → n < 2 ^ 63 }
     ensures { result ≡ cond minus (after_minus value) (without_minus value) }

@@ -1,5 +1,5 @@
-// The functions of include/rothc.h, for Rust and for the tests: each is its body's, in a crate beside
-// this one, where its wrong programs are tried. library_calls_c has them for C and Python.
+// The functions of include/rothc.h, for Rust and for the tests: each is its body's, in a crate
+// beside this one, where its wrong programs are tried. library_calls_c has them for C and Python.
 #![tactic(auto)]
 
 ghost use Rattle.std.specs.Prelude.{true, ◌≡◌, ◌≤◌};

@@ -17,6 +17,7 @@ const STATUS_FILENO: i32 = 3;
 // signal each microsecond this one takes a quarter of an hour.
 const TRIES: u64 = 1_000_000_000;
 
+// How many times the status is handed over, where the answer doesn't say why it was not taken.
 const STATUS_TRIES: u64 = 1_000;
 
 // Whether a read or a write was interrupted by a signal before it moved a byte.

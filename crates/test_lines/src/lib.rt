@@ -1,5 +1,6 @@
 // Lines of numbers on standard output, through memory for 4,096 bytes.
 #![tactic(auto)]
+
 ghost use Rattle.std.specs.Prelude.{◌≡◌, ◌+◌, ◌≤◌, length};
 
 use book_digits::write_decimal;

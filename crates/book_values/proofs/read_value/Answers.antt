@@ -2,14 +2,11 @@
 -- Assumes nothing.
 use mathlib.Core.Path.{sym, ◌∙◌}
 use native.Mathlib.Omega.{arith}
-use Rattle.book_values.proofs.Reading.{digit_byte, no_digit_past, value_none, value_zero, value_digit}
+use Rattle.book_values.proofs.Reading.{digit_byte, no_digit_past, value_none}
 use Rattle.book_values.proofs.read_value.Goals as goal
 
 pub returns-then-s-at : goal.returns-then-s-at
 returns-then-s-at c = let a = c.args in sym (value_none a.s.now a.at (no_digit_past a.s.now a.at c.if-s-at.true))
-
-pub returns-then-first-eq48 : goal.returns-then-first-eq48
-returns-then-first-eq48 c = let a = c.args in sym (value_zero a.s.now a.at c.if-first-eq48.true)
 
 pub overflow_sub-first : goal.overflow_sub-first
 overflow_sub-first c = omega (arith, digit_byte _ (sym c.is_digit.ensures ∙ c.if-is_digit.true))
@@ -17,12 +14,6 @@ overflow_sub-first c = omega (arith, digit_byte _ (sym c.is_digit.ensures ∙ c.
 pub more_digits-requires : goal.more_digits-requires
 more_digits-requires c =
     let byte = digit_byte _ (sym c.is_digit.ensures ∙ c.if-is_digit.true) in (omega arith, omega (arith, byte))
-
-pub returns-then-is_digit : goal.returns-then-is_digit
-returns-then-is_digit c =
-    let a = c.args in
-    c.more_digits.ensures
-    ∙ sym (value_digit a.s.now a.at c.if-first-eq48.false (sym c.is_digit.ensures ∙ c.if-is_digit.true))
 
 pub returns-else-is_digit : goal.returns-else-is_digit
 returns-else-is_digit c =
