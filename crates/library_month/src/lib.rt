@@ -17,6 +17,7 @@ use month_state::State;
 pub const SHAPE: u64 = 100;
 
 // The new state of a soil that none of 4 to 7 refuses.
+#[tactic(auto, using(crate::proofs::Laws::start_soil, crate::proofs::Laws::start_state))]
 pub fn start(soil: &[u64], state: &mut [u64]) -> u64
     ensures { record { number = result; state = state.new }
         ≡ rothc_start soil.now state.old }
@@ -39,6 +40,7 @@ pub fn start(soil: &[u64], state: &mut [u64]) -> u64
 
 // The single month call, the one that has demand 3 in its promise. The state before an accepted
 // month is kept in the memory after the current one.
+#[tactic(auto, unfolding(crate::specs::Calls::rothc_month))]
 pub fn month(state: &mut [u64], number: u64, entries: &[i64], row: &mut [u64]) -> u64
     ensures { record { number = result; state = state.new; row = row.new }
         ≡ rothc_month state.old number entries.now row.old }

