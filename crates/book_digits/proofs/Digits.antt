@@ -9,6 +9,8 @@ use native.Mathlib.Decide.{dec_lt}
 use borrow.Author.Tests.{lt-ltb, le-ltb}
 use lib.ListN.{length, length-append}
 use lib.Seq.{append_snoc}
+use Rattle.std.specs.Fmt as fmt
+use Rattle.std.proofs.lemmas.Fmt.{AppendsLastDigit, decimal_from_appends, length-decimal-le_succ}
 use Rattle.book_digits.specs.Digits.{digits_of, decimal}
 
 -- Enough room for the digits is enough.
@@ -34,6 +36,15 @@ unfolding decimal digits_of
 decimal_large n h =
     simp (le-ltb n 10 h)
     (ap (λ (ds : List ℕ). ds ++ ((48 + n % 10) ∷ [])) (enough n (suc (n / 10)) (n / 10) (omega arith) (omega arith)))
+
+-- The digits that the library writes of a number below 2^64 are its decimal form.
+appends_last : AppendsLastDigit digits_of
+unfolding digits_of
+appends_last = record { one = λ k n h. simp (lt-ltb n 10 h); more = λ k n h. simp (le-ltb n 10 h) }
+
+pub decimal_printed : (n : ℕ) → n < 2 ^ 64 → fmt.decimal n ≡ decimal n
+unfolding decimal
+decimal_printed n h = sym (decimal_from_appends digits_of appends_last (suc n) n h (omega (arith, length-decimal-le_succ n h)))
 
 -- It is one digit long, or one digit longer than that of its tenth.
 pub length_small : (n : ℕ) → n < 10 → length (decimal n) ≡ 1

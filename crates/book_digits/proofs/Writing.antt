@@ -1,15 +1,17 @@
 -- Values put into a list: the length stays, runs that follow one another are one run, and what stands where.
 -- Assumes nothing.
 use mathlib.Core.Path.{◌≡◌, refl, sym, ◌∙◌, ap, ap₂}
-use mathlib.Core.List.{List, [], ◌∷◌, ◌++◌}
-use Prim.Native.Nat.{ℕ, zero, suc, ◌+◌, ◌/◌, ◌%◌, ◌≤◌, ◌<◌}
+use mathlib.Core.List.{List, [], ◌∷◌, ◌++◌, append_assoc}
+use Prim.Native.Nat.{ℕ, zero, suc, ◌+◌, ◌≤◌, ◌<◌}
 use native.Mathlib.Numerals.{add-one}
 use native.Mathlib.Nat.{add-zero}
 use native.Mathlib.Omega.{arith}
 use lib.ListN.{length, get_or, take, drop, set, length-set, drop_of_length-le}
 use lib.Seq.{length-sets, sets-eq, drop-cons, get_or-set_same, get_or-set_other}
-use Rattle.book_digits.specs.Digits.{decimal, overwritten}
-use Rattle.book_digits.proofs.Digits.{decimal_small, decimal_large}
+use borrow.Rule.Slice.PartMut.{put_mid}
+use Rattle.std.proofs.lemmas.List.Edits.{paste_all}
+use Rattle.std.proofs.lemmas.Slice.{put_mid-paste}
+use Rattle.book_digits.specs.Digits.{overwritten}
 
 module _ {A : Type 0} where
   pub length-overwritten : (list : List A) (at : ℕ) (values : List A) → length (overwritten list at values) ≡ length list
@@ -30,6 +32,15 @@ module _ {A : Type 0} where
   overwritten-append list at (x ∷ xs) ys =
       ap (λ (k : ℕ). overwritten (overwritten (set list at x) (suc at) xs) k ys) (omega arith)
       ∙ overwritten-append (set list at x) (suc at) xs ys
+
+  -- A part of the list that now is the values.
+  pub overwritten_part : (list : List A) (at k : ℕ) (values part : List A) → part ≡ values → k ≡ length values →
+      at + length values ≤ length list → put_mid at k list part ≡ overwritten list at values
+  overwritten_part list at k values part same size room =
+      put_mid-paste at k list part values (length values) same (sym size) refl
+      ∙ paste_all list at values (length values) refl
+      ∙ sym (append_assoc (take at list) values (drop (at + length values) list))
+      ∙ sym (overwritten_is list at values room)
 
   -- Before the values and after them everything stays, ..
   pub overwritten-before : (list : List A) (at : ℕ) (values : List A) (k : ℕ) (d : A) → k < at →
@@ -87,15 +98,3 @@ module _ {A : Type 0} where
       length values ≤ i → out ≡ overwritten whole at values
   unfolding overwritten
   finished whole at values out i c h = sym (ap (overwritten out (at + i)) (drop_of_length-le values h)) ∙ c.rest
-
--- A number's last digit, or its only one, put after those of its tenth.
-pub written_small : (out : List ℕ) (at n : ℕ) → n < 10 → set out at (48 + n) ≡ overwritten out at (decimal n)
-unfolding overwritten
-written_small out at n h = rw (decimal_small n h)
-
-pub written_large : (out : List ℕ) (at n last : ℕ) (written : List ℕ) → 10 ≤ n →
-    last ≡ at + length (decimal (n / 10)) → written ≡ overwritten out at (decimal (n / 10)) →
-    set written last (48 + n % 10) ≡ overwritten out at (decimal n)
-unfolding overwritten
-written_large out at n last written h place is =
-    rw (is, place, decimal_large n h) (overwritten-append out at (decimal (n / 10)) ((48 + n % 10) ∷ []))

@@ -1,6 +1,9 @@
 -- ONLY SO: a book that finishes is the text of well-formed numbers, and so it ran as step 7's list of them: no other form is taken.
 -- One that doesn't is refused by one of 1 to 7 and 13 to 17: 13 and 14 on a weather line, 15 to 17 in a month.
 -- Assumes nothing.
+use Rattle.std.specs.Prelude.{Option, Some, None, Ok, Err}
+use Rattle.book_lines.specs.declared.LandNumbers.{LandNumbers}
+use Rattle.month_refusals.specs.Asked.{◌on◌, Check, first_of}
 use mathlib.Core.Path.{◌≡◌, refl, ◌∙◌, ap}
 use mathlib.Core.Bool.{Bool, true, false, cond}
 use mathlib.Core.List.{List, [], ◌++◌, flat_map, append-nil}
@@ -21,36 +24,26 @@ use Rattle.month_state.specs.declared.Land.{Land}
 use Rattle.month_state.specs.State.{month_limit, new_state}
 use Rattle.list_rows.specs.Rows.{weather_width, land_width, weather_from, land_from, weather_numbers, land_numbers}
 use Rattle.list_rows.proofs.Layouts.{weather_of_length, weather-back, weather_past, land_of_length, land-back, land_past}
-use Rattle.month_refusals.specs.declared.Check.{Check}
-use Rattle.month_refusals.specs.declared.Check.TheVariants.{Pass, Refuse}
 use Rattle.month_refusals.specs.declared.Refusal.{Refusal}
 use Rattle.month_refusals.specs.declared.Refusal.TheVariants.{Length, Rows, Form}
-use Rattle.month_refusals.specs.Asked.{first_of}
 use Rattle.month_refusals.specs.Refusals.{limit_reached, activity_outside, soil_asked, weather_asked, land_asked, carbon_asked, entries_asked}
 use Rattle.month_refusals.specs.Refusals.{soil_check, weather_check, entries_check}
 use Rattle.month_refusals.proofs.First.{finds_own, first-append}
-use Rattle.month_state.proofs.Tests.{either_false}
-use Rattle.month_call.specs.declared.Answer.TheVariants as month
+use Rattle.std.proofs.lemmas.Bool.{or_parts}
 use Rattle.month_call.specs.Month.{outcome_of, list_month}
 use Rattle.list_rows.specs.Rows.{weather_rows, land_rows, entries_at}
-use Rattle.list_run.specs.declared.ListAnswer.{ListAnswer}
-use Rattle.list_run.specs.declared.ListAnswer.TheVariants as answers
-use Rattle.list_run.specs.Run.{Left, months}
+use Rattle.list_run.specs.Run.{ListAnswer, Left, months}
 use Rattle.list_run.proofs.Months as courses
 use Rattle.list_run.proofs.Months.{Course, course}
 use Rattle.list_run.proofs.ListCalls.{done_months}
-use Rattle.book_values.specs.declared.Value.{Value}
+use Rattle.list_run.proofs.Laws.{same_refused}
 use Rattle.book_lines.specs.declared.SoilNumbers.{SoilNumbers}
-use Rattle.book_lines.specs.declared.SoilLine.{SoilLine}
-use Rattle.book_lines.specs.declared.LandLine.{LandLine}
 use Rattle.book_lines.specs.Lines.{head_line, soil_line, land_line}
 use Rattle.book_lines.proofs.Laws.{head_read, soil_read}
 use Rattle.book_rows.specs.Rows.{land_of, as_land, land_row, land_gives, RowsRead, row_then, read_rows, read_weather, read_land}
-use Rattle.book_run.specs.declared.BookAnswer.{BookAnswer}
-use Rattle.book_run.specs.declared.BookAnswer.TheVariants.{Finished, Refused}
+use Rattle.book_run.specs.Book.{BookAnswer, soil_then, soil_section, book_of}
 use Rattle.book_run.specs.Book.{BookLeft, refused_on, soil_name, weather_name, land_name, not_one, bad_count, headed, ending, after_rows}
 use Rattle.book_run.specs.Book.{after_months, land_months, land_section, land_head, weather_then, weather_section, weather_head, soil_of, soil_checked}
-use Rattle.book_run.specs.Book.{soil_then, soil_section, book_of}
 use Rattle.book_rows.specs.RowText.{Each, none, more, Counted}
 use Rattle.book_rows.proofs.RowKinds.{plain_lines, LinesAre, written, other, rows_only, rows-length, rows-most}
 use Rattle.book_laws.specs.BookText.{weather_line_of, land_line_of, book_text, LandValues, WeatherSound, Written, list_of}
@@ -63,17 +56,17 @@ use Rattle.book_laws.proofs.RoundTrip.{round_trip}
 -- There is weather, and every row of it passes 13, 14 and 19.
 record AllPass (weather : List ℤ) : Type 0 where
   some : 0 < weather_rows weather
-  each : (i : ℕ) → i < weather_rows weather → weather_check (weather_from weather (weather_width * i)) ≡ Pass
+  each : (i : ℕ) → i < weather_rows weather → weather_check (weather_from weather (weather_width * i)) ≡ Ok tt
 
 -- So every month's weather does.
-month-passes : (weather land : List ℤ) (j : ℕ) → AllPass weather → weather_check (entries_at weather land j).weather ≡ Pass
+month-passes : (weather land : List ℤ) (j : ℕ) → AllPass weather → weather_check (entries_at weather land j).weather ≡ Ok tt
 unfolding entries_at
 month-passes weather land j all = all.each (j % weather_rows weather) (mod-lt j all.some)
 
 -- The rows of a book's weather are such.
 row-passes :
     {xs : List Weather} → Each WeatherSound xs → (i : ℕ) → i < length xs
-    → weather_check (weather_from (flat_map weather_numbers xs) (weather_width * i)) ≡ Pass
+    → weather_check (weather_from (flat_map weather_numbers xs) (weather_width * i)) ≡ Ok tt
 unfolding flat_map
 row-passes none i h = absurd (omega arith)
 row-passes (more {x} {xs} sound later) zero h = rw (weather-back [] (flat_map weather_numbers xs) x) sound.passes
@@ -112,12 +105,12 @@ row_fresh l later own fresh = record { each = at }
 
 -- The rows of a book's land, as many as are read, are such.
 then_fresh :
-    (row : LandLine) (line : ℕ) (later : ℕ → RowsRead) → ((next : ℕ) → Fresh (later next).numbers)
+    (row : Option (LandNumbers × ℕ)) (line : ℕ) (later : ℕ → RowsRead) → ((next : ℕ) → Fresh (later next).numbers)
     → Fresh (row_then (land_gives (as_land row)) line later).numbers
 unfolding activity_outside
-then_fresh (LandLine.Row cover plant manure next) line later fresh =
-    row_fresh (land_of cover plant manure) (later next).numbers refl (fresh next)
-then_fresh LandLine.Malformed line later fresh = record { each = none_fresh }
+then_fresh (Some (n, next)) line later fresh =
+    row_fresh (land_of n.cover n.plant n.manure) (later next).numbers refl (fresh next)
+then_fresh None line later fresh = record { each = none_fresh }
 
 land_fresh : (count : ℕ) (s : List ℕ) (at line : ℕ) → Fresh (read_land count s at line).numbers
 unfolding read_land read_rows land_row
@@ -128,40 +121,40 @@ land_fresh (suc count) s at line = then_fresh (land_line s at) line _ (λ next. 
 
 -- A month that 12, 13, 14, 19 and 21 let pass is refused by one of 15 to 17, ..
 entries_find :
-    {r : Refusal} (s : State) (e : Entries) → s.months < month_limit → weather_check e.weather ≡ Pass
-    → activity_outside e.land ≡ false → entries_check s e ≡ Refuse r → refuses_book r ≡ true
+    {r : Refusal} (s : State) (e : Entries) → s.months < month_limit → weather_check e.weather ≡ Ok tt
+    → activity_outside e.land ≡ false → entries_check s e ≡ Err r → refuses_book r ≡ true
 unfolding first_of entries_asked limit_reached carbon_asked land_asked
 entries_find s e few passes fresh h =
     finds_own refuses_book (carbon_asked s e.land) (rw fresh refl)
     (rw (lt-leb month_limit s.months few, first-append (weather_asked e.weather) (carbon_asked s e.land), passes) at h)
 
 month_finds :
-    {r : Refusal} (s : State) (e : Entries) → s.months < month_limit → weather_check e.weather ≡ Pass
-    → activity_outside e.land ≡ false → (list_month s e).answer ≡ month.Refused r → refuses_book r ≡ true
+    {r : Refusal} (s : State) (e : Entries) → s.months < month_limit → weather_check e.weather ≡ Ok tt
+    → activity_outside e.land ≡ false → (list_month s e).answer ≡ Err r → refuses_book r ≡ true
 unfolding list_month outcome_of
 month_finds {r} s e few passes fresh h = entries_find s e few passes fresh (by_check (entries_check s e) h)
   where
-    by_check : (check : Check) → (outcome_of check s e).answer ≡ month.Refused r → check ≡ Refuse r
-    by_check Pass h = absurd (let z : ◌≡◌ {A = ℕ} 0 1 = cc in omega arith)
-    by_check (Refuse reason) h = cc
+    by_check : (check : Check) → (outcome_of check s e).answer ≡ Err r → check ≡ Err r
+    by_check (Ok _) h = absurd (let z : ◌≡◌ {A = ℕ} 0 1 = cc in omega arith)
+    by_check (Err reason) h = cc
 
 -- .. and so are months that don't come to 12.
 months_find :
     {weather land : List ℤ} {left j : ℕ} {s : State} {out : List ℕ} {end : Left} {r : Refusal} {place : ℕ}
     → AllPass weather → Fresh land → Course weather land left j s out end → s.months + left ≤ month_limit
-    → end.outcome.answer ≡ answers.Refused r place → refuses_book r ≡ true
+    → end.outcome.answer ≡ Err (r on place) → refuses_book r ≡ true
 months_find all fresh courses.finished few h = absurd (let z : ◌≡◌ {A = ℕ} 0 1 = cc in omega arith)
 months_find {weather} {land} {j} {s} {r} all fresh (courses.refused reason e) few h =
-    let same : reason ≡ r = cc in
+    let same : reason ≡ r = (same_refused h).0 in
     month_finds s (entries_at weather land j) (omega arith) (month-passes weather land j all) (month_fresh weather land j fresh)
-    (e ∙ ap month.Refused same)
+    (e ∙ ap Err same)
 months_find {weather} {land} {j} {s} all fresh (courses.month row e later) few h =
     months_find all fresh later (omega (arith, done_months s (entries_at weather land j) row e)) h
 
 list_finds :
     {r : Refusal} {place : ℕ} (soil : Soil) (weather land : List ℤ) (rows : List ℕ) → AllPass weather → Fresh land
     → length land ≤ land_width * 1200
-    → (months (land_rows land) weather land 0 (new_state soil) rows).outcome.answer ≡ answers.Refused r place → refuses_book r ≡ true
+    → (months (land_rows land) weather land 0 (new_state soil) rows).outcome.answer ≡ Err (r on place) → refuses_book r ≡ true
 unfolding new_state
 list_finds soil weather land rows all fresh few h =
     months_find all fresh (course weather land (land_rows land) 0 (new_state soil) rows) (omega arith) h
@@ -170,8 +163,9 @@ list_finds soil weather land rows all fresh few h =
 
 -- It finishes, being written so, or is refused by one of the numbers.
 data Ends (s : List ℕ) : BookAnswer → Type 0 where
-  finished : {months : ℕ} {pools co2 : Grams} → Counted months → Written s → Ends s (Finished months pools co2)
-  refused : {r : Refusal} {line : ℕ} → refuses_book r ≡ true → Ends s (Refused r line)
+  finished :
+      {months : ℕ} {pools co2 : Grams} → Counted months → Written s → Ends s (Ok (record { months = months; total = pools; co2 = co2 }))
+  refused : {r : Refusal} {line : ℕ} → refuses_book r ≡ true → Ends s (Err (r on line))
 
 module _ (s : List ℕ) where
   -- By a test, a head, ..
@@ -182,29 +176,29 @@ module _ (s : List ℕ) where
   by_test false r line rows later own rest = rest refl
 
   by_head :
-      (head : Value) (bad : ℕ → Bool) (line : ℕ) (rows : List ℕ) (later : ℕ → ℕ → BookLeft)
-      → ((count next : ℕ) → head ≡ Value.Number count next → bad count ≡ false → Ends s (later count next).answer)
+      (head : Option (ℕ × ℕ)) (bad : ℕ → Bool) (line : ℕ) (rows : List ℕ) (later : ℕ → ℕ → BookLeft)
+      → ((count next : ℕ) → head ≡ Some (count, next) → bad count ≡ false → Ends s (later count next).answer)
       → Ends s (headed head bad line rows later).answer
-  by_head (Value.Number count next) bad line rows later rest =
+  by_head (Some (count, next)) bad line rows later rest =
       by_test (bad count) Rows line rows (later count next) refl (λ good. rest count next refl good)
-  by_head Value.Malformed bad line rows later rest = refused refl
+  by_head None bad line rows later rest = refused refl
 
   -- .. the soil, ..
   by_check :
       (x : SoilNumbers) (check : Check) (rows : List ℕ) (later : BookLeft) → soil_check (soil_of x) ≡ check
-      → (check ≡ Pass → Ends s later.answer) → Ends s (soil_checked check rows later).answer
+      → (check ≡ Ok tt → Ends s later.answer) → Ends s (soil_checked check rows later).answer
   unfolding soil_asked
-  by_check x Pass rows later is rest = rest refl
-  by_check x (Refuse r) rows later is rest = refused (finds_own refuses_book (soil_asked (soil_of x)) refl is)
+  by_check x (Ok _) rows later is rest = rest refl
+  by_check x (Err r) rows later is rest = refused (finds_own refuses_book (soil_asked (soil_of x)) refl is)
 
   by_soil :
-      (line : SoilLine) (rows : List ℕ) (later : State → ℕ → BookLeft)
-      → ((x : SoilNumbers) (next : ℕ) → line ≡ SoilLine.Row x next → soil_check (soil_of x) ≡ Pass
+      (line : Option (SoilNumbers × ℕ)) (rows : List ℕ) (later : State → ℕ → BookLeft)
+      → ((x : SoilNumbers) (next : ℕ) → line ≡ Some (x, next) → soil_check (soil_of x) ≡ Ok tt
       → Ends s (later (new_state (soil_of x)) next).answer)
       → Ends s (soil_then line rows later).answer
-  by_soil (SoilLine.Row x next) rows later rest =
+  by_soil (Some (x, next)) rows later rest =
       by_check x (soil_check (soil_of x)) rows (later (new_state (soil_of x)) next) refl (λ pass. rest x next refl pass)
-  by_soil SoilLine.Malformed rows later rest = refused refl
+  by_soil None rows later rest = refused refl
 
   -- .. the weather, ..
   by_weather :
@@ -220,14 +214,15 @@ module _ (s : List ℕ) where
   -- .. the months, and the land with the end of the text.
   by_months :
       (answer : ListAnswer) (head : ℕ) (later : BookAnswer)
-      → ((r : Refusal) (place : ℕ) → answer ≡ answers.Refused r place → refuses_book r ≡ true)
+      → ((r : Refusal) (place : ℕ) → answer ≡ Err (r on place) → refuses_book r ≡ true)
       → Ends s later → Ends s (after_months answer head later)
-  by_months answers.Finished head later find rest = rest
-  by_months (answers.Refused r place) head later find rest = refused (find r place refl)
+  by_months (Ok _) head later find rest = rest
+  by_months (Err e) head later find rest = refused (find e.refusal e.place refl)
 
   by_end :
       (test : Bool) (place line months : ℕ) (pools co2 : Grams) → eqb place (length s) ≡ test
-      → (drop place s ≡ [] → Ends s (Finished months pools co2)) → Ends s (cond test (Finished months pools co2) (Refused Form line))
+      → (drop place s ≡ [] → Ends s (Ok (record { months = months; total = pools; co2 = co2 })))
+      → Ends s (cond test (Ok (record { months = months; total = pools; co2 = co2 })) (Err (Form on line)))
   by_end true place line months pools co2 is rest = rest (rw (eqb-true place (length s) is) (drop-length s))
   by_end false place line months pools co2 is rest = refused refl
 
@@ -257,7 +252,7 @@ module _ (s : List ℕ) where
 
 good-count : (n : ℕ) → bad_count n ≡ false → Counted n
 good-count n h =
-    let parts = either_false (ltb n 1) (ltb 1200 n) h in
+    let parts = or_parts (ltb n 1) (ltb 1200 n) h in
     record { least = ltb-false n 1 parts.0; most = ltb-false 1200 n parts.1 }
 
 book_ends : (s rows : List ℕ) → Ends s (book_of s rows).answer
@@ -299,30 +294,33 @@ book_ends s rows =
 
 -- ---- a book that finishes
 
-module _ {months : ℕ} {pools co2 : Grams} (s rows : List ℕ) (h : (book_of s rows).answer ≡ Finished months pools co2) where
-  found : Counted months × Written s
-  found = of_ends (rw h at (book_ends s rows))
-    where
-      of_ends : Ends s (Finished months pools co2) → Counted months × Written s
-      of_ends (finished counted text) = (counted, text)
+module _ {months : ℕ} {pools co2 : Grams} (s rows : List ℕ)
+    (h : (book_of s rows).answer ≡ Ok (record { months = months; total = pools; co2 = co2 }))
+  where
+    found : Counted months × Written s
+    found = of_ends (rw h at (book_ends s rows))
+      where
+        of_ends : Ends s (Ok (record { months = months; total = pools; co2 = co2 })) → Counted months × Written s
+        of_ends (finished counted text) = (counted, text)
 
-  pub book_written : Written s
-  book_written = found.1
+    pub book_written : Written s
+    book_written = found.1
 
-  -- It ran as step 7's list of its numbers: the answer and every row are the list's; ..
-  pub finished_runs : book_of s rows ≡ list_of book_written.numbers rows
-  finished_runs =
-      ap (λ (l : List ℕ). book_of l rows) book_written.text ∙ round_trip book_written.numbers rows book_written.good
+    -- It ran as step 7's list of its numbers: the answer and every row are the list's; ..
+    pub finished_runs : book_of s rows ≡ list_of book_written.numbers rows
+    finished_runs =
+        ap (λ (l : List ℕ). book_of l rows) book_written.text ∙ round_trip book_written.numbers rows book_written.good
 
-  -- .. from 1 to 1,200 months.
-  pub finished-count : Counted months
-  finished-count = found.0
+    -- .. from 1 to 1,200 months.
+    pub finished-count : Counted months
+    finished-count = found.0
 
 -- ---- a book that is refused
 
 -- 8 to 12 and 18 to 22 never refuse it.
-pub book_numbers : (s rows : List ℕ) (refusal : Refusal) (line : ℕ) → (book_of s rows).answer ≡ Refused refusal line → refuses_book refusal ≡ true
+pub book_numbers :
+    (s rows : List ℕ) (refusal : Refusal) (line : ℕ) → (book_of s rows).answer ≡ Err (refusal on line) → refuses_book refusal ≡ true
 book_numbers s rows refusal line h = of_ends (rw h at (book_ends s rows))
   where
-    of_ends : Ends s (Refused refusal line) → refuses_book refusal ≡ true
+    of_ends : Ends s (Err (refusal on line)) → refuses_book refusal ≡ true
     of_ends (refused own) = own

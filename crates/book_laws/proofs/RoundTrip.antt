@@ -1,6 +1,8 @@
 -- ROUND TRIP: a well-formed book is read as exactly its numbers, and is run as step 7's list of them. So two well-formed books with
 -- the same text are the same numbers.
 -- Assumes nothing.
+use Rattle.std.specs.Prelude.{Option, Some, Ok}
+use Rattle.std.specs.Option.{unwrap_or}
 use mathlib.Core.Path.{◌≡◌, refl, sym, ◌∙◌, ap}
 use mathlib.Core.Bool.{false}
 use mathlib.Core.List.{List, flat_map, append-nil}
@@ -8,14 +10,11 @@ use Prim.Native.Nat.{ℕ, ◌+◌, ◌^◌, ◌≤◌, ◌<◌}
 use native.Mathlib.Omega.{arith}
 use borrow.Author.Tests.{le-ltb, eq-eqb}
 use lib.ListN.{length, length-append}
-use Rattle.month_state.proofs.Tests.{false_either}
-use Rattle.book_values.specs.declared.Value.{Value}
-use Rattle.book_lines.specs.declared.SoilLine.{SoilLine}
+use Rattle.std.proofs.lemmas.Bool.{or_from}
 use Rattle.book_lines.specs.Lines.{head_line, soil_line}
 use Rattle.book_lines.specs.LineText.{head_text, soil_text}
 use Rattle.book_values.proofs.Texts.{after}
 use Rattle.book_lines.proofs.Laws.{head_round, soil_round}
-use Rattle.book_rows.specs.declared.RowsEnd.TheVariants.{Next}
 use Rattle.book_rows.specs.Rows.{read_weather, read_land}
 use Rattle.book_run.specs.Book.{soil_name, weather_name, land_name, bad_count, ending, land_section, land_head}
 use Rattle.book_run.specs.Book.{weather_section, weather_head, soil_section, book_of}
@@ -33,16 +32,16 @@ record Reads (s : List ℕ) (b : BookNumbers) : Type 0 where
   from_weather : ℕ
   from_land_head : ℕ
   from_land : ℕ
-  soil_head : head_line s 0 soil_name ≡ Value.Number 1 from_soil
-  soil : soil_line s from_soil ≡ SoilLine.Row b.soil from_weather_head
-  weather_head_lem : head_line s from_weather_head weather_name ≡ Value.Number (length b.weather) from_weather
+  soil_head : head_line s 0 soil_name ≡ Some (1, from_soil)
+  soil : soil_line s from_soil ≡ Some (b.soil, from_weather_head)
+  weather_head_lem : head_line s from_weather_head weather_name ≡ Some ((length b.weather), from_weather)
   weather :
       ((read_weather (length b.weather) s from_weather 4).numbers ≡ weather_list b)
-      × ((read_weather (length b.weather) s from_weather 4).ends ≡ Next from_land_head)
-  land_head_lem : head_line s from_land_head land_name ≡ Value.Number (length b.land) from_land
+      × ((read_weather (length b.weather) s from_weather 4).ends ≡ Ok from_land_head)
+  land_head_lem : head_line s from_land_head land_name ≡ Some ((length b.land), from_land)
   land :
       ((read_land (length b.land) s from_land (length b.weather + 4 + 1)).numbers ≡ land_list b)
-      × ((read_land (length b.land) s from_land (length b.weather + 4 + 1)).ends ≡ Next (length s))
+      × ((read_land (length b.land) s from_land (length b.weather + 4 + 1)).ends ≡ Ok (length s))
 
 reads : (b : BookNumbers) → WellFormed b → Reads (book_text b) b
 unfolding book_text read_weather read_land
@@ -78,17 +77,31 @@ reads b good =
       weather_head_lem = head_round weather_name (length b.weather) s _ _ weather_few at-weather-head;
       weather = plain_back weather-kind s _ 4 _ weather-lines good.weather at-weather;
       land_head_lem = head_round land_name (length b.land) s _ land land_few at-land-head;
-      land = (land_read.0, land_read.1 ∙ ap Next end);
+      land = (land_read.0, land_read.1 ∙ ap Ok end);
     }
 
 -- ---- the same numbers
 
+-- A line is read as one value with one place after it.
+one_reading :
+    {A : Type 0} {line : Option (A × ℕ)} {x y : A} {n m : ℕ} → line ≡ Some (x, n) → line ≡ Some (y, m) → (x ≡ y) × (n ≡ m)
+one_reading {A} {x} {n} h k =
+    let is = ap (λ (l : Option (A × ℕ)). unwrap_or l (x, n)) (sym h ∙ k) in
+    (ap (λ (p : A × ℕ). p.0) is, ap (λ (p : A × ℕ). p.1) is)
+
 same : (s : List ℕ) (b b' : BookNumbers) → Reads s b → Reads s b' → b ≡ b'
 same s b b' r r' =
-    let soil : b.soil ≡ b'.soil = cc in
-    let weather_count : length b.weather ≡ length b'.weather = cc in
+    let first = one_reading r.soil_head r'.soil_head in
+    let second = one_reading r.soil (ap (soil_line s) first.1 ∙ r'.soil) in
+    let third = one_reading r.weather_head_lem (ap (λ (n : ℕ). head_line s n weather_name) second.1 ∙ r'.weather_head_lem) in
+    let soil : b.soil ≡ b'.soil = second.0 in
+    let weather_count : length b.weather ≡ length b'.weather = third.0 in
+    let from_weather : r.from_weather ≡ r'.from_weather = third.1 in
     let weather : weather_list b ≡ weather_list b' = cc in
-    let land_count : length b.land ≡ length b'.land = cc in
+    let from_land_head : r.from_land_head ≡ r'.from_land_head = cc in
+    let last = one_reading r.land_head_lem (ap (λ (n : ℕ). head_line s n land_name) from_land_head ∙ r'.land_head_lem) in
+    let land_count : length b.land ≡ length b'.land = last.0 in
+    let from_land : r.from_land ≡ r'.from_land = last.1 in
     let land : land_list b ≡ land_list b' = cc in
     let weather-rows = rows_same weather-kind b.weather b'.weather weather_count weather in
     let land-rows = rows_same land-kind b.land b'.land land_count land in
@@ -100,7 +113,7 @@ text_injective b b' good good' e = same (book_text b') b b' (rw e at (reads b go
 -- ---- the list of months
 
 count-passes : (n : ℕ) → Counted n → bad_count n ≡ false
-count-passes n counted = false_either (le-ltb n 1 counted.least) (le-ltb 1200 n counted.most)
+count-passes n counted = or_from _ _ (le-ltb n 1 counted.least) (le-ltb 1200 n counted.most)
 
 -- A well-formed book leaves what step 7's list of its numbers leaves: the answer, and every row.
 runs : (s : List ℕ) (b : BookNumbers) (rows : List ℕ) → WellFormed b → length s ≤ 65536 → Reads s b → book_of s rows ≡ list_of b rows

@@ -16,8 +16,7 @@ use Rattle.book_lines.specs.LineText.{head_text, soil_text, weather_text, land_t
 use Rattle.book_run.specs.Book.{soil_name, weather_name, land_name, soil_of}
 use Rattle.book_rows.specs.RowText.{Each, none, more}
 use Rattle.book_rows.proofs.RowKinds.{weather-values}
-use Rattle.book_laws.specs.BookText.{BookNumbers, weather_line_of, land_line_of, book_text, LandValues, WeatherSound}
-use Rattle.book_laws.specs.BookText.{WellFormed}
+use Rattle.book_laws.specs.BookText.{BookNumbers, weather_line_of, land_line_of, book_text, LandValues, WeatherSound, WellFormed}
 
 -- ---- a line
 

@@ -1,5 +1,6 @@
 -- A WHOLE LIST: a well-formed book is what step 7's list makes of its numbers with all its checks, since none of them refuses.
 -- Assumes nothing.
+use Rattle.std.specs.Prelude.{Ok}
 use mathlib.Core.Path.{◌≡◌, sym, ◌∙◌, ap}
 use mathlib.Core.Bool.{false}
 use mathlib.Core.List.{List}
@@ -10,13 +11,11 @@ use borrow.Author.Tests.{le-ltb}
 use lib.Dec.{lit<}
 use lib.ListN.{length}
 use Rattle.month_state.specs.State.{new_state}
-use Rattle.list_rows.specs.Rows.{weather_width, land_width, row_width}
-use Rattle.month_refusals.specs.declared.Check.TheVariants.{Pass}
+use Rattle.list_rows.specs.Rows.{weather_width, land_width, row_width, land_rows, rows_outside}
 use Rattle.month_refusals.specs.Asked.{first_of}
 use Rattle.month_refusals.specs.Refusals.{soil_asked}
 use Rattle.month_refusals.proofs.First.{finds, asked-false, none_left, then_asked}
 use Rattle.month_refusals.proofs.Accepted.{state-parts, new_passes}
-use Rattle.list_rows.specs.Rows.{land_rows, rows_outside}
 use Rattle.list_run.specs.Run.{room_asked, before_months}
 use Rattle.list_run.proofs.Laws.{rows_pass, passes-run}
 use Rattle.book_run.specs.Book.{soil_of, book_of}
@@ -44,7 +43,7 @@ pub land-rows : (b : BookNumbers) → land_rows (land_list b) ≡ length b.land
 land-rows b = omega (arith, rows-length land-kind b.land)
 
 module _ (b : BookNumbers) (rows : List ℕ) (good : WellFormed b) (room : row_width * length b.land ≤ length rows) where
-  passes : first_of (before_months (new_state (soil_of b.soil)) (weather_list b) (land_list b) (length rows)) ≡ Pass
+  passes : first_of (before_months (new_state (soil_of b.soil)) (weather_list b) (land_list b) (length rows)) ≡ Ok tt
   unfolding new_state room_asked
   passes =
       let soil = soil_of b.soil in

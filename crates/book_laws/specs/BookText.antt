@@ -1,20 +1,17 @@
 -- A book's numbers, its text as it is written, and what step 7's list of months makes of them.
-use Rattle.std.specs.Prelude.{◌≡◌, ℕ, ◌+◌, ◌^◌, ◌<◌, ℤ, pos, nat_abs, length}
+use Rattle.std.specs.Prelude.{Ok, ◌≡◌, ℕ, ◌+◌, ◌^◌, ◌<◌, ℤ, pos, nat_abs, length}
 use mathlib.Core.List.{List, ◌++◌, flat_map}
 use Rattle.step_pools.specs.Pools.{grams}
 use Rattle.month_state.specs.declared.Weather.{Weather}
 use Rattle.month_state.specs.declared.Land.{Land}
 use Rattle.month_state.specs.State.{new_state, five_pools}
-use Rattle.list_rows.specs.Rows.{weather_numbers, land_numbers}
-use Rattle.month_refusals.specs.declared.Check.TheVariants.{Pass}
+use Rattle.list_rows.specs.Rows.{weather_numbers, land_numbers, land_rows}
 use Rattle.month_refusals.specs.Refusals.{soil_check}
-use Rattle.list_rows.specs.Rows.{land_rows}
 use Rattle.list_run.specs.Run.{Left, months, run}
 use Rattle.book_lines.specs.declared.SoilNumbers.{SoilNumbers}
 use Rattle.book_rows.specs.Rows.{land_of}
 use Rattle.book_rows.specs.RowText.{Each, SoundFrom, Counted}
 use Rattle.book_lines.specs.LineText.{head_text, soil_text, weather_text, land_text}
-use Rattle.book_run.specs.declared.BookAnswer.TheVariants.{Finished}
 use Rattle.book_run.specs.Book.{BookLeft, soil_name, weather_name, land_name, after_months, soil_of}
 
 -- The numbers of a book: its soil's, and a row for each weather line and each land line.
@@ -60,7 +57,7 @@ pub record LandValues (l : Land) : Type 0 where
 
 -- A book of which 1 to 7, 13 and 14 refuse nothing. Its months may still be refused, by 15 to 17.
 pub record WellFormed (b : BookNumbers) : Type 0 where
-  pub soil : soil_check (soil_of b.soil) ≡ Pass
+  pub soil : soil_check (soil_of b.soil) ≡ Ok tt
   pub weather_count : Counted (length b.weather)
   pub weather : Each WeatherSound b.weather
   pub land_count : Counted (length b.land)
@@ -84,7 +81,8 @@ land_list b = flat_map land_numbers b.land
 -- What step 7's list leaves of a book's numbers, from the soil's new state: its months alone, ..
 abbrev pub months_of : BookNumbers → List ℕ → Left
 months_of b rows =
-    months (land_rows (land_list b)) (weather_list b) (land_list b) 0 (new_state (soil_of b.soil)) rows
+    months (land_rows (land_list b)) (weather_list b) (land_list b) 0 (new_state (soil_of b.soil))
+    rows
 
 -- .. and the whole list, whose checks 3, 4 to 7, 8 and 10 come before its months.
 abbrev pub run_of : BookNumbers → List ℕ → Left
@@ -96,10 +94,11 @@ run_of b rows = run (new_state (soil_of b.soil)) (weather_list b) (land_list b) 
 unfoldable pub of_list : BookNumbers → Left → BookLeft
 of_list b left =
     let state = left.outcome.state in
+    let pools = grams (five_pools state) in
     record {
       answer =
           after_months left.outcome.answer (length b.weather + 4)
-          (Finished (length b.land) (grams (five_pools state)) state.co2);
+          (Ok (record { months = length b.land; total = pools; co2 = state.co2 }));
       rows = left.output;
     }
 

@@ -1,5 +1,6 @@
 -- The values of a line after its first, one law for the soil's, the weather's and the land's lines: how they are read one
 -- after another to the line's end, and how they stand in the text. Assumes nothing.
+use Rattle.std.specs.Prelude.{Option, None, Some}
 use mathlib.Core.Path.{◌≡◌, refl, sym, ◌∙◌, ap}
 use mathlib.Core.Bool.{false}
 use mathlib.Core.List.{List, ◌∷◌, ◌++◌, append_assoc}
@@ -9,13 +10,11 @@ use lib.IntN.{ℤ}
 use lib.ListN.{length, get_or, drop, length-append}
 use lib.Seq.{append_snoc}
 use Rattle.book_digits.specs.Digits.{spaced, line_end}
-use Rattle.book_values.specs.declared.Value.{Value}
-use Rattle.book_values.specs.declared.Signed.{Signed}
 use Rattle.book_values.specs.Values.{is_digit, read_value, read_signed}
-use Rattle.book_lines.specs.declared.SoilLine.{SoilLine}
-use Rattle.book_lines.specs.declared.WeatherLine.{WeatherLine}
-use Rattle.book_lines.specs.declared.LandLine.{LandLine}
-use Rattle.book_lines.specs.Lines.{spaced_value, ended, value_then, temperature_then, soil_line, weather_line, land_line}
+use Rattle.book_lines.specs.declared.SoilNumbers.{SoilNumbers}
+use Rattle.book_lines.specs.declared.WeatherNumbers.{WeatherNumbers}
+use Rattle.book_lines.specs.declared.LandNumbers.{LandNumbers}
+use Rattle.book_lines.specs.Lines.{spaced_value, ended, value_then, soil_line, weather_line, land_line}
 use Rattle.book_values.proofs.Texts.{after, PartRead}
 use Rattle.book_lines.proofs.Parts.{spaced_read, spaced_round, end_read, end_round}
 use Rattle.book_lines.proofs.Parts.{space_no_digit, end_no_digit}
@@ -26,101 +25,46 @@ Numbers zero = ℕ
 Numbers (suc k) = ℕ × Numbers k
 
 -- What a line makes of them: each is read after a space, the last with the line's end.
-unfoldable pub values_then : {Line : Type 0} → Line → List ℕ → (k : ℕ) → ℕ → (Numbers k → ℕ → Line) → Line
-values_then malformed s zero at row = value_then malformed (ended s (spaced_value s at)) row
-values_then malformed s (suc k) at row =
-    value_then malformed (spaced_value s at) (λ n next. values_then malformed s k next (λ x. row (n, x)))
+unfoldable pub values_then : {Line : Type 0} → List ℕ → (k : ℕ) → ℕ → (Numbers k → ℕ → Option Line) → Option Line
+values_then s zero at row = value_then (ended s (spaced_value s at)) row
+values_then s (suc k) at row =
+    value_then (spaced_value s at) (λ n next. values_then s k next (λ x. row (n, x)))
 
 -- The three lines in these terms: the first value, and those after it.
-abbrev pub soil_row : ℕ → Numbers 6 → ℕ → SoilLine
-soil_row clay x =
-    SoilLine.Row
-    (record {
-      clay = clay;
-      depth = x.0;
-      kind = x.1.0;
-      dpm = x.1.1.0;
-      rpm = x.1.1.1.0;
-      bio = x.1.1.1.1.0;
-      hum = x.1.1.1.1.1.0;
-      iom = x.1.1.1.1.1.1;
-    })
+abbrev pub soil_row : ℕ → Numbers 6 → ℕ → Option (SoilNumbers × ℕ)
+soil_row clay x next =
+    Some (
+      record {
+        clay = clay;
+        depth = x.0;
+        kind = x.1.0;
+        dpm = x.1.1.0;
+        rpm = x.1.1.1.0;
+        bio = x.1.1.1.1.0;
+        hum = x.1.1.1.1.1.0;
+        iom = x.1.1.1.1.1.1;
+      },
+      next,
+    )
 
-abbrev pub weather_row : ℤ → Numbers 1 → ℕ → WeatherLine
-weather_row temperature x = WeatherLine.Row temperature x.0 x.1
+abbrev pub weather_row : ℤ → Numbers 1 → ℕ → Option (WeatherNumbers × ℕ)
+weather_row temperature x next = Some (record { temperature = temperature; rain = x.0; evaporation = x.1 }, next)
 
-abbrev pub land_row : ℕ → Numbers 1 → ℕ → LandLine
-land_row cover x = LandLine.Row cover x.0 x.1
+abbrev pub land_row : ℕ → Numbers 1 → ℕ → Option (LandNumbers × ℕ)
+land_row cover x next = Some (record { cover = cover; plant = x.0; manure = x.1 }, next)
 
 module _ (s : List ℕ) (at : ℕ) where
-  pub soil_is : soil_line s at
-      ≡ value_then SoilLine.Malformed (read_value s at) (λ n a. values_then SoilLine.Malformed s 6 a (soil_row n))
+  pub soil_is : soil_line s at ≡ value_then (read_value s at) (λ n a. values_then s 6 a (soil_row n))
   unfolding soil_line values_then
   soil_is = refl
 
-  pub weather_is : weather_line s at
-      ≡ temperature_then (read_signed s at) (λ z a. values_then WeatherLine.Malformed s 1 a (weather_row z))
+  pub weather_is : weather_line s at ≡ value_then (read_signed s at) (λ z a. values_then s 1 a (weather_row z))
   unfolding weather_line values_then
   weather_is = refl
 
-  pub land_is : land_line s at
-      ≡ value_then LandLine.Malformed (read_value s at) (λ n a. values_then LandLine.Malformed s 1 a (land_row n))
+  pub land_is : land_line s at ≡ value_then (read_value s at) (λ n a. values_then s 1 a (land_row n))
   unfolding land_line values_then
   land_is = refl
-
--- ---- a line on its way, with so many values to come and a last one
-
-pub record Way {Line : Type 0} (malformed : Line) (k : ℕ) : Type 0 where
-  pub line : Line
-  pub s : List ℕ
-  pub at : ℕ
-  pub row : Numbers k → ℕ → Line
-  pub is : line ≡ values_then malformed s k at row
-
--- Its first value was read.
-module _ {Line : Type 0} (malformed line : Line) (s : List ℕ) (k : ℕ) (row : ℕ → Numbers k → ℕ → Line) {v r : Value}
-    {n next : ℕ} (read : r ≡ v) (some : r ≡ Value.Number n next)
-    (is : line ≡ value_then malformed v (λ m a. values_then malformed s k a (row m))) where
-  pub begun_is : line ≡ values_then malformed s k next (row n)
-  begun_is = is ∙ rw (sym read ∙ some)
-
-  abbrev pub begun : Way malformed k
-  begun = record { line = line; s = s; at = next; row = row n; is = begun_is }
-
--- The same of a weather line.
-module _ (s : List ℕ) (at : ℕ) {z : ℤ} {next : ℕ} (some : read_signed s at ≡ Signed.Number z next) where
-  pub weather_begun_is : weather_line s at ≡ values_then WeatherLine.Malformed s 1 next (weather_row z)
-  weather_begun_is = weather_is s at ∙ rw some
-
-  abbrev pub weather_begun : Way WeatherLine.Malformed 1
-  weather_begun = record { line = weather_line s at; s = s; at = next; row = weather_row z; is = weather_begun_is }
-
--- Its next value is missing, or was read.
-module _ {Line : Type 0} {malformed : Line} {k : ℕ} (w : Way malformed (suc k)) {r : Value}
-    (read : r ≡ spaced_value w.s w.at) where
-  pub missing : r ≡ Value.Malformed → malformed ≡ w.line
-  unfolding values_then
-  missing none = sym (w.is ∙ rw (sym read ∙ none))
-
-  pub further : {n next : ℕ} → r ≡ Value.Number n next →
-      w.line ≡ values_then malformed w.s k next (λ x. w.row (n, x))
-  unfolding values_then
-  further some = w.is ∙ rw (sym read ∙ some)
-
-  abbrev pub onward : {n next : ℕ} → r ≡ Value.Number n next → Way malformed k
-  onward {n} {next} some =
-      record { line = w.line; s = w.s; at = next; row = λ x. w.row (n, x); is = further some }
-
--- The same of its last value.
-module _ {Line : Type 0} {malformed : Line} (w : Way malformed 0) {r v : Value} (read : r ≡ ended w.s v)
-    (value : v ≡ spaced_value w.s w.at) where
-  pub last_missing : r ≡ Value.Malformed → malformed ≡ w.line
-  unfolding values_then
-  last_missing none = sym (w.is ∙ rw (sym value, sym read ∙ none))
-
-  pub finished : {n next : ℕ} → r ≡ Value.Number n next → w.row n next ≡ w.line
-  unfolding values_then
-  finished some = sym (w.is ∙ rw (sym value, sym read ∙ some))
 
 -- ---- what stands in the text
 
@@ -155,20 +99,15 @@ pub record NumbersRead (s : List ℕ) (at k : ℕ) (x : Numbers k) (next : ℕ) 
   pub above : at < next
   pub within : next ≤ length s
 
--- What holds of a malformed line, and of a line with any value that is read, holds of the line.
-pub value_cases : {Line : Type 0} {malformed : Line} (P : Line → Type 0) (v : Value) {later : ℕ → ℕ → Line} → P malformed →
-    ((n next : ℕ) → v ≡ Value.Number n next → P (later n next)) → P (value_then malformed v later)
-value_cases P (Value.Number n next) none some = some n next refl
-value_cases P Value.Malformed none some = none
+-- What holds of no line, and of a line with any value that is read, holds of the line.
+pub value_cases : {A Line : Type 0} (P : Option Line → Type 0) (v : Option (A × ℕ)) {later : A → ℕ → Option Line} → P None →
+    ((n : A) (next : ℕ) → v ≡ Some (n, next) → P (later n next)) → P (value_then v later)
+value_cases P (Some (n, next)) none some = some n next refl
+value_cases P None none some = none
 
-pub first_cases : (P : WeatherLine → Type 0) (v : Signed) {later : ℤ → ℕ → WeatherLine} → P WeatherLine.Malformed →
-    ((z : ℤ) (next : ℕ) → v ≡ Signed.Number z next → P (later z next)) → P (temperature_then v later)
-first_cases P (Signed.Number z next) none some = some z next refl
-first_cases P Signed.Malformed none some = none
-
-pub values_cases : {Line : Type 0} {malformed : Line} (P : Line → Type 0) (s : List ℕ) (k at : ℕ)
-    {row : Numbers k → ℕ → Line} → P malformed →
-    ((x : Numbers k) (next : ℕ) → NumbersRead s at k x next → P (row x next)) → P (values_then malformed s k at row)
+pub values_cases : {Line : Type 0} (P : Option Line → Type 0) (s : List ℕ) (k at : ℕ)
+    {row : Numbers k → ℕ → Option Line} → P None →
+    ((x : Numbers k) (next : ℕ) → NumbersRead s at k x next → P (row x next)) → P (values_then s k at row)
 unfolding values_then
 values_cases P s zero at none some =
     value_cases P (ended s (spaced_value s at)) none (λ n next e.
@@ -193,28 +132,28 @@ space_first zero x rest = space_no_digit
 space_first (suc k) x rest = space_no_digit
 
 -- ROUND TRIP of the numbers, ..
-values_round : {Line : Type 0} (malformed : Line) (k : ℕ) (row : Numbers k → ℕ → Line) (x : Numbers k) (s : List ℕ)
+values_round : {Line : Type 0} (k : ℕ) (row : Numbers k → ℕ → Option Line) (x : Numbers k) (s : List ℕ)
     (at : ℕ) (rest : List ℕ) → Below k x → drop at s ≡ text_of k x ++ rest →
-    values_then malformed s k at row ≡ row x (at + length (text_of k x))
+    values_then s k at row ≡ row x (at + length (text_of k x))
 unfolding values_then
-values_round malformed zero row n s at rest h e =
+values_round zero row n s at rest h e =
     let text : drop at s ≡ spaced n ++ (10 ∷ rest) = e ∙ append_snoc (spaced n) 10 rest in
     rw (end_round s (spaced_value s at) n (at + length (spaced n)) rest
     (spaced_round n s at (10 ∷ rest) h text end_no_digit) (after s at (spaced n) (10 ∷ rest) text))
     (ap (row n) (simp length-append (omega arith)))
-values_round malformed (suc k) row x s at rest h e =
+values_round (suc k) row x s at rest h e =
     let later : List ℕ = text_of k x.1 ++ rest in
     let text : drop at s ≡ spaced x.0 ++ later = e ∙ append_assoc (spaced x.0) (text_of k x.1) rest in
     rw (spaced_round x.0 s at later h.0 text (space_first k x.1 rest))
-    (values_round malformed k (λ y. row (x.0, y)) x.1 s (at + length (spaced x.0)) rest h.1
+    (values_round k (λ y. row (x.0, y)) x.1 s (at + length (spaced x.0)) rest h.1
     (after s at (spaced x.0) later text)
     ∙ ap (row x) (simp length-append (omega arith)))
 
 -- .. after what the line begins with.
-pub line_round : {Line : Type 0} (malformed : Line) (k : ℕ) (row : Numbers k → ℕ → Line) (x : Numbers k) (s : List ℕ) (at : ℕ)
+pub line_round : {Line : Type 0} (k : ℕ) (row : Numbers k → ℕ → Option Line) (x : Numbers k) (s : List ℕ) (at : ℕ)
     (first rest : List ℕ) → Below k x → drop at s ≡ line_text first k x ++ rest →
-    values_then malformed s k (at + length first) row ≡ row x (at + length (line_text first k x))
-line_round malformed k row x s at first rest h e =
-    values_round malformed k row x s (at + length first) rest h
+    values_then s k (at + length first) row ≡ row x (at + length (line_text first k x))
+line_round k row x s at first rest h e =
+    values_round k row x s (at + length first) rest h
     (after s at first (text_of k x ++ rest) (e ∙ line_parts first k x rest))
     ∙ ap (row x) (rw (line_is first k x) (simp length-append (omega arith)))

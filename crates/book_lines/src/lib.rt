@@ -1,15 +1,16 @@
 // The lines of document 01's book on a byte slice: heads, and lines of values with one space
-// between them, each ended by byte 10. specs/Lines.antt says what each function gives.
+// between them, each ended by byte 10. Each is read with the place of the next line.
+// specs/Lines.antt says what each function gives.
 #![tactic(auto)]
 
 ghost use Rattle.std.specs.Prelude.{◌≡◌};
 ghost use Rattle.book_lines.specs.Lines.{bytes_are, spaced_value, ended, head_line};
 ghost use Rattle.book_lines.specs.Lines.{soil_line, weather_line, land_line};
 
-use book_values::{Signed, Value, byte_is, read_signed, read_value};
+use book_values::{past, read_signed, read_value};
 
 // A soil's eight numbers, as its line has them.
-#[derive(Clone, Copy)]
+#[derive(Clone, Copy, PartialEq, Eq)]
 pub struct SoilNumbers {
     pub clay: u64,
     pub depth: u64,
@@ -21,110 +22,72 @@ pub struct SoilNumbers {
     pub iom: u64,
 }
 
-// What reading the soil's line finds: its numbers with the place of the next line, or another form.
-#[derive(Clone, Copy)]
-pub enum SoilLine {
-    Row(SoilNumbers, usize),
-    Malformed,
+// A weather line's numbers.
+#[derive(Clone, Copy, PartialEq, Eq)]
+pub struct WeatherNumbers {
+    pub temperature: i64,
+    pub rain: u64,
+    pub evaporation: u64,
 }
 
-// The same of a weather line: temperature, rain, evaporation.
-#[derive(Clone, Copy)]
-pub enum WeatherLine {
-    Row(i64, u64, u64, usize),
-    Malformed,
+// A land line's numbers: the cover, and grams of plants and manure.
+#[derive(Clone, Copy, PartialEq, Eq)]
+pub struct LandNumbers {
+    pub cover: u64,
+    pub plant: u64,
+    pub manure: u64,
 }
 
-// The same of a land line: cover, plant grams, manure grams.
-#[derive(Clone, Copy)]
-pub enum LandLine {
-    Row(u64, u64, u64, usize),
-    Malformed,
-}
-
-// Whether these bytes stand at the place. A byte that is there shows that the place after it is no
-// overflow.
+// Whether these bytes stand at the place.
+#[tactic(auto, using(crate::proofs::Parts::starts_from))]
 fn bytes_are(s: &[u8], at: usize, bytes: &[u8]) -> bool
     ensures { result ≡ bytes_are s.now at bytes.now }
 {
-    let mut next = at;
-    let mut left = bytes.len();
-    while 0 < left {
-        let byte = bytes[bytes.len() - left];
-        if !byte_is(s, next, byte) {
-            return false;
-        }
-        next += 1;
-        left -= 1;
-    }
-    true
+    s[at.min(s.len())..].starts_with(bytes)
 }
 
 // A space and a value.
-fn spaced_value(s: &[u8], at: usize) -> Value
+#[tactic(auto, unfolding(crate::specs::Lines::spaced_value, book_values::specs::Values::past))]
+fn spaced_value(s: &[u8], at: usize) -> Option<(u64, usize)>
     ensures { result ≡ spaced_value s.now at }
 {
-    if byte_is(s, at, 32) {
-        read_value(s, at + 1)
-    } else {
-        Value::Malformed
-    }
+    read_value(s, past(s, at, b' ')?)
 }
 
 // A value that its line ends with, and the place of the next line.
-pub fn ended(s: &[u8], value: Value) -> Value
+#[tactic(auto, unfolding(crate::specs::Lines::ended, book_values::specs::Values::past))]
+pub fn ended(s: &[u8], value: Option<(u64, usize)>) -> Option<(u64, usize)>
     ensures { result ≡ ended s.now value }
 {
-    let Value::Number(n, next) = value else {
-        return value;
-    };
-    if !byte_is(s, next, 10) {
-        return Value::Malformed;
-    }
-    Value::Number(n, next + 1)
+    let (n, end) = value?;
+    Some((n, past(s, end, b'\n')?))
 }
 
 // A section's head: its name with a space, and its count.
-pub fn head_line(s: &[u8], at: usize, name: &[u8]) -> Value
+#[tactic(auto, unfolding(crate::specs::Lines::head_line))]
+pub fn head_line(s: &[u8], at: usize, name: &[u8]) -> Option<(u64, usize)>
     ensures { result ≡ head_line s.now at name.now }
 {
     if bytes_are(s, at, name) {
-        let count = read_value(s, at + name.len());
-        ended(s, count)
+        ended(s, read_value(s, at + name.len()))
     } else {
-        Value::Malformed
+        None
     }
 }
 
 // The soil's line: clay, depth, kind, DPM, RPM, BIO, HUM, IOM.
-pub fn soil_line(s: &[u8], at: usize) -> SoilLine
+#[tactic(auto, unfolding(crate::specs::Lines::soil_line))]
+pub fn soil_line(s: &[u8], at: usize) -> Option<(SoilNumbers, usize)>
     ensures { result ≡ soil_line s.now at }
 {
-    let Value::Number(clay, a) = read_value(s, at) else {
-        return SoilLine::Malformed;
-    };
-    let Value::Number(depth, b) = spaced_value(s, a) else {
-        return SoilLine::Malformed;
-    };
-    let Value::Number(kind, c) = spaced_value(s, b) else {
-        return SoilLine::Malformed;
-    };
-    let Value::Number(dpm, d) = spaced_value(s, c) else {
-        return SoilLine::Malformed;
-    };
-    let Value::Number(rpm, e) = spaced_value(s, d) else {
-        return SoilLine::Malformed;
-    };
-    let Value::Number(bio, f) = spaced_value(s, e) else {
-        return SoilLine::Malformed;
-    };
-    let Value::Number(hum, g) = spaced_value(s, f) else {
-        return SoilLine::Malformed;
-    };
-    let last = spaced_value(s, g);
-    let Value::Number(iom, next) = ended(s, last) else {
-        return SoilLine::Malformed;
-    };
+    let (clay, a) = read_value(s, at)?;
+    let (depth, b) = spaced_value(s, a)?;
+    let (kind, c) = spaced_value(s, b)?;
+    let (dpm, d) = spaced_value(s, c)?;
+    let (rpm, e) = spaced_value(s, d)?;
+    let (bio, f) = spaced_value(s, e)?;
+    let (hum, g) = spaced_value(s, f)?;
+    let (iom, next) = ended(s, spaced_value(s, g))?;
     let numbers = SoilNumbers {
         clay,
         depth,
@@ -135,39 +98,37 @@ pub fn soil_line(s: &[u8], at: usize) -> SoilLine
         hum,
         iom,
     };
-    SoilLine::Row(numbers, next)
+    Some((numbers, next))
 }
 
 // A weather line: temperature, rain, evaporation.
-pub fn weather_line(s: &[u8], at: usize) -> WeatherLine
+#[tactic(auto, unfolding(crate::specs::Lines::weather_line))]
+pub fn weather_line(s: &[u8], at: usize) -> Option<(WeatherNumbers, usize)>
     ensures { result ≡ weather_line s.now at }
 {
-    let Signed::Number(temperature, a) = read_signed(s, at) else {
-        return WeatherLine::Malformed;
+    let (temperature, a) = read_signed(s, at)?;
+    let (rain, b) = spaced_value(s, a)?;
+    let (evaporation, next) = ended(s, spaced_value(s, b))?;
+    let numbers = WeatherNumbers {
+        temperature,
+        rain,
+        evaporation,
     };
-    let Value::Number(rain, b) = spaced_value(s, a) else {
-        return WeatherLine::Malformed;
-    };
-    let last = spaced_value(s, b);
-    let Value::Number(evaporation, next) = ended(s, last) else {
-        return WeatherLine::Malformed;
-    };
-    WeatherLine::Row(temperature, rain, evaporation, next)
+    Some((numbers, next))
 }
 
 // A land line: cover, plant grams, manure grams.
-pub fn land_line(s: &[u8], at: usize) -> LandLine
+#[tactic(auto, unfolding(crate::specs::Lines::land_line))]
+pub fn land_line(s: &[u8], at: usize) -> Option<(LandNumbers, usize)>
     ensures { result ≡ land_line s.now at }
 {
-    let Value::Number(cover, a) = read_value(s, at) else {
-        return LandLine::Malformed;
+    let (cover, a) = read_value(s, at)?;
+    let (plant, b) = spaced_value(s, a)?;
+    let (manure, next) = ended(s, spaced_value(s, b))?;
+    let numbers = LandNumbers {
+        cover,
+        plant,
+        manure,
     };
-    let Value::Number(plant, b) = spaced_value(s, a) else {
-        return LandLine::Malformed;
-    };
-    let last = spaced_value(s, b);
-    let Value::Number(manure, next) = ended(s, last) else {
-        return LandLine::Malformed;
-    };
-    LandLine::Row(cover, plant, manure, next)
+    Some((numbers, next))
 }

@@ -1,122 +1,91 @@
--- An output on its way: what is written, with what is left put after it, is the whole. And how long each part of an output is.
--- Assumes nothing.
-use mathlib.Core.Path.{◌≡◌, refl, ◌∙◌, ap}
-use mathlib.Core.List.{List, [], ◌∷◌, ◌++◌}
-use Prim.Native.Nat.{ℕ, suc, ◌+◌, ◌-◌, ◌*◌, ◌≤◌, ◌<◌}
+-- A text on its way: what is added piece by piece is added as a whole. And a row's numbers and the months' lines, one more at a
+-- time. Assumes nothing.
+use mathlib.Core.Path.{◌≡◌, refl, sym, ◌∙◌, ap, ap₂}
+use mathlib.Core.List.{List, [], ◌++◌, append-nil, append_assoc}
+use Prim.Native.Nat.{ℕ, zero, suc, ◌+◌, ◌*◌, ◌≤◌, ◌<◌}
+use native.Mathlib.Nat.{add-zero, zero-add}
+use native.Mathlib.Numerals.{add-one}
 use native.Mathlib.Omega.{arith}
-use lib.ListN.{length, get_or, set, length-append}
-use Rattle.book_digits.specs.Digits.{overwritten, spaced}
-use Rattle.book_digits.proofs.Writing.{length-overwritten, overwritten-append}
+use lib.ListN.{length, get_or, length-append}
+use Rattle.std.specs.List.{between}
+use Rattle.std.proofs.lemmas.List.Edits.{length-between, get_or-between}
+use Rattle.book_digits.specs.Digits.{decimal, spaced, line_end, overwritten}
+use Rattle.book_digits.proofs.Writing.{overwritten-append}
+use Rattle.book_output.specs.declared.Text.{Text}
 use Rattle.book_output.specs.Output.{numbers, row_line, row_lines}
+use Rattle.book_output.specs.Text.{Added}
 
--- Of the bytes that are to stand from the place `at` of `whole` on, `rest` is left, to be put from the place `next` of `out` on.
-pub record Rest (whole : List ℕ) (at : ℕ) (bytes out : List ℕ) (next : ℕ) (rest : List ℕ) : Type 0 where
-  pub place : next + length rest ≡ at + length bytes
-  pub size : length out ≡ length whole
-  pub text : overwritten out next rest ≡ overwritten whole at bytes
-
-pub begun : (whole : List ℕ) (at : ℕ) (bytes : List ℕ) → Rest whole at bytes whole at bytes
-begun whole at bytes = record { place = refl; size = refl; text = refl }
-
--- The first bytes of what is left are put.
-pub step : {whole : List ℕ} {at : ℕ} {bytes out : List ℕ} {next : ℕ} {out' : List ℕ} {next' : ℕ} (xs ys : List ℕ) →
-    Rest whole at bytes out next (xs ++ ys) → next' ≡ next + length xs → out' ≡ overwritten out next xs →
-    Rest whole at bytes out' next' ys
-step {out} {next} xs ys r place is =
-    record {
-      place = omega (arith, length-append xs ys, r.place);
-      size = ap length is ∙ length-overwritten out next xs ∙ r.size;
-      text = rw (is, place) (overwritten-append out next xs ys ∙ r.text);
-    }
-
--- Nothing is left.
-pub done : {whole : List ℕ} {at : ℕ} {bytes out : List ℕ} {next : ℕ} → Rest whole at bytes out next [] →
-    (next ≡ at + length bytes) × (out ≡ overwritten whole at bytes)
+-- Nothing is added.
+pub unchanged : (text : Text) → Added text [] text
 unfolding overwritten
-done r = (omega (arith, r.place), r.text)
+unchanged text = record { same = refl; size = refl; len = omega arith; out = refl }
 
--- All that is left is put.
-pub last : {whole : List ℕ} {at : ℕ} {bytes out : List ℕ} {next : ℕ} {rest out' : List ℕ} {next' : ℕ} →
-    Rest whole at bytes out next rest → next' ≡ next + length rest → out' ≡ overwritten out next rest →
-    (next' ≡ at + length bytes) × (out' ≡ overwritten whole at bytes)
-last r place is = (place ∙ r.place, is ∙ r.text)
-
--- The line's end, byte 10, is put last.
-pub ended : {whole : List ℕ} {at : ℕ} {bytes out : List ℕ} {next : ℕ} → Rest whole at bytes out next (10 ∷ []) →
-    (next + 1 ≡ at + length bytes) × (set out next 10 ≡ overwritten whole at bytes)
-unfolding overwritten
-ended r = (omega (arith, r.place), r.text)
-
--- ---- one number, and one line, of those that are left
-
-pub number-left : (most k : ℕ) (rows : List ℕ) (from : ℕ) → k < most →
-    numbers (most - k) rows (from + k) ≡ spaced (get_or rows (from + k) 0) ++ numbers (most - (k + 1)) rows (from + (k + 1))
-unfolding numbers
-number-left most k rows from h =
-    let one : most - k ≡ suc (most - (k + 1)) = omega arith in
-    let place : from + k + 1 ≡ from + (k + 1) = omega arith in
-    ap (λ (n : ℕ). numbers n rows (from + k)) one
-    ∙ ap (λ (m : ℕ). spaced (get_or rows (from + k) 0) ++ numbers (most - (k + 1)) rows m) place
-
-pub line_left : (count j : ℕ) (rows : List ℕ) → j < count →
-    row_lines (count - j) rows j ≡ row_line rows j ++ row_lines (count - (j + 1)) rows (j + 1)
-unfolding row_lines
-line_left count j rows h =
-    let one : count - j ≡ suc (count - (j + 1)) = omega arith in
-    ap (λ (n : ℕ). row_lines n rows j) one
-
--- None is left.
-pub none_left : (rows : List ℕ) (most k from : ℕ) → most ≤ k → numbers (most - k) rows from ≡ []
-unfolding numbers
-none_left rows most k from h =
-    let none : most - k ≡ 0 = omega arith in
-    ap (λ (n : ℕ). numbers n rows from) none
-
-pub no_line_left : (rows : List ℕ) (count j : ℕ) → count ≤ j → row_lines (count - j) rows j ≡ []
-unfolding row_lines
-no_line_left rows count j h =
-    let none : count - j ≡ 0 = omega arith in
-    ap (λ (n : ℕ). row_lines n rows j) none
-
--- ---- a row's numbers, and the months' lines, on their way
-
--- What is written, with the numbers that are left put after it, is the whole, and each number has taken at most 21 bytes.
-pub record Numbers (out₀ : List ℕ) (at : ℕ) (rows : List ℕ) (from : ℕ) (out : List ℕ) (next k : ℕ) : Type 0 where
-  pub count : k ≤ 7
-  pub rest : Rest out₀ at (numbers 7 rows from) out next (numbers (7 - k) rows (from + k))
-  pub most : next ≤ at + 21 * k
-
--- A number more.
-pub number_more :
-    {out₀ : List ℕ} {at : ℕ} {rows : List ℕ} {from : ℕ} {out : List ℕ} {place k : ℕ} {out' : List ℕ} {place' : ℕ}
-    → Numbers out₀ at rows from out place k → k < 7
-    → place' ≡ place + length (spaced (get_or rows (from + k) 0)) → out' ≡ overwritten out place (spaced (get_or rows (from + k) 0))
-    → place' ≤ place + 21
-    → Numbers out₀ at rows from out' place' (k + 1)
-number_more {rows} {from} {k} i more ends is few =
+-- Bytes are added, and then more.
+pub then : {before middle after : Text} {xs ys : List ℕ} → Added before xs middle → Added middle ys after →
+    Added before (xs ++ ys) after
+then {before} {middle} {after} {xs} {ys} a b =
+    let end : middle.len ≡ before.len + length xs = a.len in
     record {
-      count = omega arith;
-      rest =
-          step (spaced (get_or rows (from + k) 0)) (numbers (7 - (k + 1)) rows (from + (k + 1)))
-          (rw (number-left 7 k rows from more) at i.rest) ends is;
-      most = omega (arith, i.most);
+      same = b.same ∙ a.same;
+      size = b.size ∙ a.size;
+      len = omega (arith, length-append xs ys, a.len, b.len);
+      out =
+          b.out
+          ∙ ap₂ (λ (list : List ℕ) (at : ℕ). overwritten list at ys) a.out end
+          ∙ overwritten-append before.out.now before.len xs ys;
     }
 
--- What is written, with the lines that are left put after it, is the whole, and each line has taken at most 168 bytes.
-pub record Lines (out₀ : List ℕ) (at : ℕ) (rows : List ℕ) (count : ℕ) (out : List ℕ) (next j : ℕ) : Type 0 where
-  pub months : j ≤ count
-  pub rest : Rest out₀ at (row_lines count rows 0) out next (row_lines (count - j) rows j)
-  pub most : next ≤ at + 168 * j
+-- A number more is added, ..
+numbers-suc : (k : ℕ) (rows : List ℕ) (from : ℕ) →
+    numbers (suc k) rows from ≡ numbers k rows from ++ spaced (get_or rows (from + k) 0)
+unfolding numbers
+numbers-suc zero rows from = rw (add-zero from) (append-nil (spaced (get_or rows from 0)))
+numbers-suc (suc k) rows from =
+    ap (λ (bytes : List ℕ). spaced (get_or rows from 0) ++ bytes) (numbers-suc k rows (from + 1))
+    ∙ sym (append_assoc (spaced (get_or rows from 0)) (numbers k rows (from + 1)) (spaced (get_or rows (from + 1 + k) 0)))
+    ∙ ap (λ (i : ℕ). (spaced (get_or rows from 0) ++ numbers k rows (from + 1)) ++ spaced (get_or rows i 0)) (omega arith)
 
--- A line more.
-pub line_more :
-    {out₀ : List ℕ} {at : ℕ} {rows : List ℕ} {count : ℕ} {out : List ℕ} {place j : ℕ} {out' : List ℕ} {place' : ℕ}
-    → Lines out₀ at rows count out place j → j < count
-    → place' ≡ place + length (row_line rows j) → out' ≡ overwritten out place (row_line rows j) → place' ≤ place + 168
-    → Lines out₀ at rows count out' place' (j + 1)
-line_more {rows} {count} {j} i more ends is few =
-    record {
-      months = omega arith;
-      rest = step (row_line rows j) (row_lines (count - (j + 1)) rows (j + 1)) (rw (line_left count j rows more) at i.rest) ends is;
-      most = omega (arith, i.most);
-    }
+pub number_more : {before middle after : Text} (k : ℕ) (row : List ℕ) → Added before (numbers k row 0) middle →
+    Added middle (spaced (get_or row k 0)) after → Added before (numbers (k + 1) row 0) after
+number_more k row a b = rw (add-one k, numbers-suc k row 0, zero-add k) (then a b)
+
+-- The numbers of a part of the rows are theirs.
+pub numbers_part : (k : ℕ) (rows part : List ℕ) (from at : ℕ) →
+    ((i : ℕ) → i < at + k → get_or part i 0 ≡ get_or rows (from + i) 0) → numbers k part at ≡ numbers k rows (from + at)
+unfolding numbers
+numbers_part zero rows part from at same = refl
+numbers_part (suc k) rows part from at same =
+    let here : get_or part at 0 ≡ get_or rows (from + at) 0 = same at (omega arith) in
+    let next : from + (at + 1) ≡ from + at + 1 = omega arith in
+    ap₂ (λ (n : ℕ) (bytes : List ℕ). spaced n ++ bytes) here
+    (numbers_part k rows part from (at + 1) (λ i h. same i (omega arith)) ∙ ap (λ (i : ℕ). numbers k rows i) next)
+
+-- .. and a line more: the month's number, its seven numbers and byte 10.
+lines-suc : (k : ℕ) (rows : List ℕ) (j : ℕ) → row_lines (suc k) rows j ≡ row_lines k rows j ++ row_line rows (j + k)
+unfolding row_lines
+lines-suc zero rows j = rw (add-zero j) (append-nil (row_line rows j))
+lines-suc (suc k) rows j =
+    ap (λ (bytes : List ℕ). row_line rows j ++ bytes) (lines-suc k rows (j + 1))
+    ∙ sym (append_assoc (row_line rows j) (row_lines k rows (j + 1)) (row_line rows (j + 1 + k)))
+    ∙ ap (λ (i : ℕ). (row_line rows j ++ row_lines k rows (j + 1)) ++ row_line rows i) (omega arith)
+
+line_is : (j : ℕ) (rows : List ℕ) → 7 * j + 7 ≤ length rows →
+    decimal (j + 1)
+    ++ (numbers (length (between (7 * j) (7 * j + 7) rows)) (between (7 * j) (7 * j + 7) rows) 0 ++ line_end)
+    ≡ row_line rows j
+unfolding row_line
+line_is j rows h =
+    let seven : length (between (7 * j) (7 * j + 7) rows) ≡ 7 = omega (arith, length-between rows (7 * j) (7 * j + 7) h) in
+    let row : numbers 7 (between (7 * j) (7 * j + 7) rows) 0 ≡ numbers 7 rows (7 * j + 0) =
+    numbers_part 7 rows (between (7 * j) (7 * j + 7) rows) (7 * j) 0
+    (λ i w. get_or-between rows (7 * j) (7 * j + 7) i 0 (omega arith)) in
+    ap (λ (bytes : List ℕ). decimal (j + 1) ++ (bytes ++ line_end))
+    (ap (λ (k : ℕ). numbers k (between (7 * j) (7 * j + 7) rows) 0) seven ∙ row ∙ ap (λ (i : ℕ). numbers 7 rows i) (add-zero (7 * j)))
+
+pub line_more : {before middle after : Text} (j : ℕ) (rows : List ℕ) → 7 * j + 7 ≤ length rows →
+    Added before (row_lines j rows 0) middle →
+    Added middle
+    (decimal (j + 1)
+    ++ (numbers (length (between (7 * j) (7 * j + 7) rows)) (between (7 * j) (7 * j + 7) rows) 0 ++ line_end))
+    after → Added before (row_lines (j + 1) rows 0) after
+line_more j rows h a b = rw (add-one j, lines-suc j rows 0, zero-add j) (then a (rw (line_is j rows h) at b))

@@ -3,105 +3,102 @@
 // what is written.
 #![tactic(auto)]
 
-ghost use Rattle.std.specs.Prelude.{◌≡◌, ◌+◌, ◌*◌, ◌≤◌, ◌<◌, length};
-ghost use Rattle.book_digits.specs.Digits.{overwritten, spaced};
-ghost use Rattle.book_output.specs.Output.{numbers, row_line, row_lines, pools_line, named_line};
+ghost use Rattle.std.specs.Prelude.{◌≡◌, ◌+◌, ◌*◌, ◌≤◌, length};
+ghost use Rattle.book_digits.specs.Digits.{decimal, overwritten, spaced};
+ghost use Rattle.book_output.specs.Output.{numbers, row_lines, pools_line, named_line};
 ghost use Rattle.book_output.specs.Output.{finished_output, refused_output};
+ghost use Rattle.book_output.specs.Text.{HasRoom, Added};
 
 use book_digits::{write_bytes, write_decimal};
 
-// Writes a space and a number, and gives the place after it. A u64 has at most 20 digits.
-fn write_spaced(out: &mut [u8], at: usize, n: u64) -> usize
-    requires { at + 21 ≤ length out.old }
-    ensures place { result ≡ at + length (spaced n) }
-    ensures written { out.new ≡ overwritten out.old at (spaced n) }
-    ensures most { result ≤ at + 21 }
-{
-    out[at] = 32;
-    write_decimal(out, at + 1, n)
+// A text on its way into a lent slice, from the slice's start: so far it has `len` bytes.
+#[derive(Drop)]
+struct Text<'a> {
+    out: &'a mut [u8],
+    len: usize,
 }
 
-// Writes the seven numbers from a place of the rows on, each after a space.
-fn write_numbers(out: &mut [u8], at: usize, rows: &[u64], from: usize) -> usize
-    requires room { at + 147 ≤ length out.old }
-    requires row { from + 7 ≤ length rows.now }
-    ensures place { result ≡ at + length (numbers 7 rows.now from) }
-    ensures written { out.new
-        ≡ overwritten out.old at (numbers 7 rows.now from) }
-    ensures most { result ≤ at + 147 }
-{
-    let mut next = at;
-    let mut k = 0;
-    while k < 7 {
-        next = write_spaced(out, next, rows[from + k]);
-        k += 1;
+impl Text<'_> {
+    // Adds bytes.
+    fn bytes(&mut self, bytes: &[u8])
+        requires { HasRoom self.old (length bytes.now) }
+        ensures { Added self.old bytes.now self.new }
+    {
+        self.len = write_bytes(self.out, self.len, bytes);
     }
-    next
-}
 
-// Writes the line of the month at place j, counted from 0.
-fn write_row(out: &mut [u8], at: usize, rows: &[u64], j: usize) -> usize
-    requires room { at + 168 ≤ length out.old }
-    requires row { (7 * j + 7 ≤ length rows.now) × (j < 1200) }
-    ensures place { result ≡ at + length (row_line rows.now j) }
-    ensures written { out.new
-        ≡ overwritten out.old at (row_line rows.now j) }
-    ensures most { result ≤ at + 168 }
-{
-    let row = write_decimal(out, at, j as u64 + 1);
-    let end = write_numbers(out, row, rows, 7 * j);
-    out[end] = 10;
-    end + 1
-}
-
-// Writes a line for each month.
-fn write_rows(out: &mut [u8], at: usize, rows: &[u64], count: usize) -> usize
-    requires room { at + 168 * count ≤ length out.old }
-    requires rows { (7 * count ≤ length rows.now) × (count ≤ 1200) }
-    ensures place { result ≡ at + length (row_lines count rows.now 0) }
-    ensures written { out.new
-        ≡ overwritten out.old at (row_lines count rows.now 0) }
-    ensures most { result ≤ at + 168 * count }
-{
-    let mut next = at;
-    let mut j = 0;
-    while j < count {
-        next = write_row(out, next, rows, j);
-        j += 1;
+    // Adds a number, of at most 20 digits.
+    #[tactic(auto, using(book_digits::proofs::Digits::decimal_twenty))]
+    fn decimal(&mut self, n: u64)
+        requires { HasRoom self.old 20 }
+        ensures added { Added self.old (decimal n) self.new }
+        ensures most { self.new.len ≤ self.old.len + 20 }
+    {
+        self.len = write_decimal(self.out, self.len, n);
     }
-    next
-}
 
-// Writes the head `POOLS n`.
-fn write_pools(out: &mut [u8], at: usize, count: usize) -> usize
-    requires { at + 27 ≤ length out.old }
-    ensures place { result ≡ at + length (pools_line count) }
-    ensures written { out.new
-        ≡ overwritten out.old at (pools_line count) }
-    ensures most { result ≤ at + 27 }
-{
-    let number = write_bytes(out, at, b"POOLS ");
-    let end = write_decimal(out, number, count as u64);
-    out[end] = 10;
-    end + 1
-}
+    // Adds a space and a number.
+    fn spaced(&mut self, n: u64)
+        requires { HasRoom self.old 21 }
+        ensures added { Added self.old (spaced n) self.new }
+        ensures most { self.new.len ≤ self.old.len + 21 }
+    {
+        self.bytes(b" ");
+        self.decimal(n);
+    }
 
-// Writes a line of a name and two numbers.
-fn write_named(out: &mut [u8], at: usize, name: &[u8], first: u64, second: u64) -> usize
-    requires { at + length name.now + 42 ≤ length out.old }
-    ensures place { result ≡ at + length (named_line name.now first second) }
-    ensures written { out.new
-        ≡ overwritten out.old at (named_line name.now first second) }
-    ensures most { result ≤ at + length name.now + 42 }
-{
-    let number = write_bytes(out, at, name);
-    let space = write_decimal(out, number, first);
-    let end = write_spaced(out, space, second);
-    out[end] = 10;
-    end + 1
+    // Adds the head `POOLS n`.
+    fn pools(&mut self, count: usize)
+        requires { HasRoom self.old 27 }
+        ensures added { Added self.old (pools_line count) self.new }
+        ensures most { self.new.len ≤ self.old.len + 27 }
+    {
+        self.bytes(b"POOLS ");
+        self.decimal(count as u64);
+        self.bytes(b"\n");
+    }
+
+    // Adds numbers, each after a space.
+    fn numbers(&mut self, row: &[u64])
+        requires { HasRoom self.old (21 * length row.now) }
+        ensures added { Added self.old (numbers (length row.now) row.now 0) self.new }
+        ensures most { self.new.len ≤ self.old.len + 21 * length row.now }
+    {
+        for n in row {
+            self.spaced(*n);
+        }
+    }
+
+    // Adds a line for each month.
+    fn rows(&mut self, rows: &[u64], count: usize)
+        requires room { HasRoom self.old (168 * count) }
+        requires rows { (7 * count ≤ length rows.now) × (count ≤ 1200) }
+        ensures added { Added self.old (row_lines count rows.now 0) self.new }
+        ensures most { self.new.len ≤ self.old.len + 168 * count }
+    {
+        // By place: with chunks_exact, take and enumerate the proof did not close.
+        for j in 0..count {
+            self.decimal(j as u64 + 1);
+            self.numbers(&rows[7 * j..7 * j + 7]);
+            self.bytes(b"\n");
+        }
+    }
+
+    // Adds a line of a name and two numbers.
+    fn named(&mut self, name: &[u8], first: u64, second: u64)
+        requires { HasRoom self.old (length name.now + 42) }
+        ensures added { Added self.old (named_line name.now first second) self.new }
+        ensures most { self.new.len ≤ self.old.len + length name.now + 42 }
+    {
+        self.bytes(name);
+        self.decimal(first);
+        self.spaced(second);
+        self.bytes(b"\n");
+    }
 }
 
 // Writes what a book that ran gives, with the line `TOTAL t g` at its end, and gives its length.
+// Months, totals and rows are apart, since they meet in this one call alone.
 pub fn write_finished(out: &mut [u8], months: usize, total: u64, co2: u64, rows: &[u64]) -> usize
     requires room { 204800 ≤ length out.old }
     requires rows { (months ≤ 1200) × (7 * months ≤ length rows.now) }
@@ -110,9 +107,11 @@ pub fn write_finished(out: &mut [u8], months: usize, total: u64, co2: u64, rows:
         ≡ overwritten out.old 0 (finished_output months total co2 rows.now) }
     ensures most { result ≤ 204800 }
 {
-    let first = write_pools(out, 0, months);
-    let last = write_rows(out, first, rows, months);
-    write_named(out, last, b"TOTAL ", total, co2)
+    let mut text = Text { out, len: 0 };
+    text.pools(months);
+    text.rows(rows, months);
+    text.named(b"TOTAL ", total, co2);
+    text.len
 }
 
 // Writes what a refused book gives, the line `REFUSED number line`, and gives its length.
@@ -123,5 +122,7 @@ pub fn write_refused(out: &mut [u8], number: u64, line: u64) -> usize
         ≡ overwritten out.old 0 (refused_output number line) }
     ensures most { result ≤ 204800 }
 {
-    write_named(out, 0, b"REFUSED ", number, line)
+    let mut text = Text { out, len: 0 };
+    text.named(b"REFUSED ", number, line);
+    text.len
 }

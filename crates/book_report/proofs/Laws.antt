@@ -1,4 +1,6 @@
 -- A book that ran has run at most 1,200 months, since a count of land rows above that is refused. Assumes nothing.
+use Rattle.month_refusals.specs.Asked.{◌on◌, Check}
+use Rattle.std.specs.Prelude.{Option, Some, None, Ok, Err}
 use mathlib.Core.Path.{◌≡◌, refl}
 use mathlib.Core.Bool.{Bool, true, false, cond}
 use mathlib.Core.List.{List}
@@ -12,23 +14,15 @@ use Rattle.number_units.specs.declared.Grams.{Grams}
 use Rattle.step_pools.specs.Pools.{grams}
 use Rattle.month_state.specs.declared.State.{State}
 use Rattle.month_state.specs.State.{new_state, five_pools}
-use Rattle.month_refusals.specs.declared.Check.{Check}
-use Rattle.month_refusals.specs.declared.Check.TheVariants.{Pass, Refuse}
 use Rattle.month_refusals.specs.declared.Refusal.TheVariants.{Length, Form, Rows}
 use Rattle.month_refusals.specs.Refusals.{soil_check}
-use Rattle.month_state.proofs.Tests.{either_false}
-use Rattle.list_run.specs.declared.ListAnswer.{ListAnswer}
-use Rattle.list_run.specs.declared.ListAnswer.TheVariants as lists
-use Rattle.book_values.specs.declared.Value.{Value}
-use Rattle.book_lines.specs.declared.SoilLine.{SoilLine}
+use Rattle.std.proofs.lemmas.Bool.{or_parts}
+use Rattle.list_run.specs.Run.{ListAnswer}
+use Rattle.book_lines.specs.declared.SoilNumbers.{SoilNumbers}
 use Rattle.book_lines.specs.Lines.{head_line, soil_line}
-use Rattle.book_rows.specs.declared.RowsEnd.{RowsEnd}
-use Rattle.book_rows.specs.declared.RowsEnd.TheVariants as ends
-use Rattle.book_rows.specs.Rows.{read_weather, read_land}
-use Rattle.book_run.specs.declared.BookAnswer.{BookAnswer}
-use Rattle.book_run.specs.declared.BookAnswer.TheVariants.{Finished, Refused}
+use Rattle.book_rows.specs.Rows.{RowsEnd, read_weather, read_land}
+use Rattle.book_run.specs.Book.{BookAnswer, after_months, land_months, land_section, land_head, weather_then, weather_section, weather_head}
 use Rattle.book_run.specs.Book.{BookLeft, refused_on, soil_name, weather_name, land_name, not_one, bad_count, headed, ending, after_rows}
-use Rattle.book_run.specs.Book.{after_months, land_months, land_section, land_head, weather_then, weather_section, weather_head}
 use Rattle.book_run.specs.Book.{soil_of, soil_checked, soil_then, soil_section, book_of}
 use Rattle.book_report.specs.Report.{months_run}
 
@@ -42,43 +36,43 @@ test_few : (test : Bool) (x y : BookLeft) → (test ≡ true → Few x) → (tes
 test_few true x y h k = h refl
 test_few false x y h k = k refl
 
-headed_few : (v : Value) (bad : ℕ → Bool) (line : ℕ) (rows : List ℕ) (later : ℕ → ℕ → BookLeft)
+headed_few : (v : Option (ℕ × ℕ)) (bad : ℕ → Bool) (line : ℕ) (rows : List ℕ) (later : ℕ → ℕ → BookLeft)
     → ((count next : ℕ) → bad count ≡ false → Few (later count next)) → Few (headed v bad line rows later)
-headed_few (Value.Number count next) bad line rows later h =
+headed_few (Some (count, next)) bad line rows later h =
     test_few (bad count) (refused_on Rows line rows) (later count next) (λ e. omega arith) (h count next)
-headed_few Value.Malformed bad line rows later h = omega arith
+headed_few None bad line rows later h = omega arith
 
 weather_few : (end : RowsEnd) (rows : List ℕ) (later : ℕ → BookLeft) → ((at : ℕ) → Few (later at)) → Few (weather_then end rows later)
-weather_few (ends.Next at) rows later h = h at
-weather_few (ends.Refused refusal line) rows later h = omega arith
+weather_few (Ok at) rows later h = h at
+weather_few (Err e) rows later h = omega arith
 
 checked_few : (check : Check) (rows : List ℕ) (later : BookLeft) → Few later → Few (soil_checked check rows later)
-checked_few Pass rows later h = h
-checked_few (Refuse refusal) rows later h = omega arith
+checked_few (Ok _) rows later h = h
+checked_few (Err refusal) rows later h = omega arith
 
-soil_few : (l : SoilLine) (rows : List ℕ) (later : State → ℕ → BookLeft) → ((s : State) (next : ℕ) → Few (later s next))
+soil_few : (l : Option (SoilNumbers × ℕ)) (rows : List ℕ) (later : State → ℕ → BookLeft) → ((s : State) (next : ℕ) → Few (later s next))
     → Few (soil_then l rows later)
-soil_few (SoilLine.Row numbers next) rows later h =
+soil_few (Some (numbers, next)) rows later h =
     let state = new_state (soil_of numbers) in
     checked_few (soil_check (soil_of numbers)) rows (later state next) (h state next)
-soil_few SoilLine.Malformed rows later h = omega arith
+soil_few None rows later h = omega arith
 
 -- ---- the land: a book that finishes ran as many months as its count
 
 ending_few : (test : Bool) (months line : ℕ) (total co2 : Grams)
-    → months_run (cond test (Finished months total co2) (Refused Form line)) ≤ months
+    → months_run (cond test (Ok (record { months = months; total = total; co2 = co2 })) (Err (Form on line))) ≤ months
 ending_few true months line total co2 = omega arith
 ending_few false months line total co2 = omega arith
 
 rows_few : (end : RowsEnd) (s : List ℕ) (line months : ℕ) (state : State) → months_run (after_rows end s line months state) ≤ months
 unfolding ending
-rows_few (ends.Next place) s line months state =
+rows_few (Ok place) s line months state =
     ending_few (eqb place (length s)) months line (grams (five_pools state)) state.co2
-rows_few (ends.Refused refusal faulty) s line months state = omega arith
+rows_few (Err e) s line months state = omega arith
 
 months_few : (answer : ListAnswer) (head : ℕ) (later : BookAnswer) → months_run (after_months answer head later) ≤ months_run later
-months_few lists.Finished head later = omega arith
-months_few (lists.Refused refusal place) head later = omega arith
+months_few (Ok _) head later = omega arith
+months_few (Err e) head later = omega arith
 
 land_few : (count : ℕ) (s : List ℕ) (place head : ℕ) (weather : List ℤ) (state : State) (rows : List ℕ) → bad_count count ≡ false
     → Few (land_section count s place head weather state rows)
@@ -86,7 +80,7 @@ unfolding land_section
 land_few count s place head weather state rows good =
     let land = read_land count s place (head + 1) in
     let left = land_months land weather state rows in
-    let most : count ≤ 1200 = ltb-false 1200 count (either_false (ltb count 1) (ltb 1200 count) good).1 in
+    let most : count ≤ 1200 = ltb-false 1200 count (or_parts (ltb count 1) (ltb 1200 count) good).1 in
     omega (
       arith,
       most,

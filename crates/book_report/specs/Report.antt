@@ -1,27 +1,20 @@
 -- What document 01's program writes for a book, "runs its months from the new state and writes ..",
 -- and whether that is a refusal.
-use Rattle.std.specs.Prelude.{Bool, true, false, List, ℕ, replicate}
+use Rattle.std.specs.Prelude.{Ok, Err, Bool, List, ℕ, replicate, is_err}
 use Rattle.month_refusals.specs.Asked.{refusal_number}
-use Rattle.book_run.specs.declared.BookAnswer.{BookAnswer}
-use Rattle.book_run.specs.declared.BookAnswer.TheVariants.{Finished, Refused}
-use Rattle.book_run.specs.Book.{book_of}
+use Rattle.book_run.specs.Book.{BookAnswer, book_of}
 use Rattle.book_output.specs.Output.{finished_output, refused_output}
 
 -- The months that a book's answer says were run.
 abbrev pub months_run : BookAnswer → ℕ
-months_run (Finished months total co2) = months
-months_run (Refused refusal line) = 0
-
--- Whether a book's answer is a refusal.
-abbrev pub is_refused : BookAnswer → Bool
-is_refused (Finished months total co2) = false
-is_refused (Refused refusal line) = true
+months_run (Ok x) = x.months
+months_run (Err e) = 0
 
 -- The output of a book's answer and its rows: pools and totals, or on a refusal only its number and
 -- line.
 unfoldable pub output_of : BookAnswer → List ℕ → List ℕ
-output_of (Finished months total co2) rows = finished_output months total.0 co2.0 rows
-output_of (Refused refusal line) rows = refused_output (refusal_number refusal) line
+output_of (Ok x) rows = finished_output x.months x.total.0 x.co2.0 rows
+output_of (Err e) rows = refused_output (refusal_number e.refusal) e.place
 
 -- The rows before any month: zeros, seven for each of the 1,200 months that a book has at most.
 abbrev pub no_rows : List ℕ
@@ -33,4 +26,4 @@ report_of book = output_of (book_of book no_rows).answer (book_of book no_rows).
 
 -- Whether a book is refused, whatever its bytes are.
 unfoldable pub book_refused : List ℕ → Bool
-book_refused book = is_refused (book_of book no_rows).answer
+book_refused book = is_err (book_of book no_rows).answer

@@ -5,13 +5,13 @@
 ghost use Rattle.std.specs.Prelude.{◌≡◌, ◌≤◌, length};
 ghost use Rattle.book_digits.specs.Digits.{overwritten};
 ghost use Rattle.book_report.specs.Report.{months_run, output_of, report_of};
-ghost use Rattle.book_report.specs.Report.{is_refused, book_refused};
+ghost use Rattle.book_report.specs.Report.{book_refused};
 
 use book_output::{write_finished, write_refused};
 use book_run::{BookAnswer, run_book};
-use month_refusals::refusal_number;
 
 // Writes what a book's answer and its rows give, and gives the length.
+#[tactic(auto, unfolding(crate::specs::Report::output_of))]
 pub fn write_answer(answer: BookAnswer, rows: &[u64; 8400], out: &mut [u8; 204_800]) -> usize
     requires { months_run answer ≤ 1200 }
     ensures length { result ≡ length (output_of answer rows.now) }
@@ -20,35 +20,22 @@ pub fn write_answer(answer: BookAnswer, rows: &[u64; 8400], out: &mut [u8; 204_8
     ensures within { result ≤ length out.new }
 {
     match answer {
-        BookAnswer::Finished(months, total, co2) => {
-            write_finished(out, months as usize, total.0, co2.0, rows)
-        }
-        BookAnswer::Refused(refusal, line) => {
-            let number = refusal_number(refusal);
-            write_refused(out, number, line)
-        }
+        Ok(ran) => write_finished(out, ran.months as usize, ran.total.0, ran.co2.0, rows),
+        Err(e) => write_refused(out, e.refusal.number(), e.place),
     }
 }
 
-// What was written for a book: its length, and whether it is a refusal.
+// What was written for a book: its length, and whether it is a refusal. A flag, since both kinds have
+// a length.
 #[derive(Clone, Copy)]
 pub struct Written {
     pub length: usize,
     pub refused: bool,
 }
 
-// Whether a book's answer is a refusal.
-fn is_refused(answer: BookAnswer) -> bool
-    ensures { result ≡ is_refused answer }
-{
-    match answer {
-        BookAnswer::Finished(_, _, _) => false,
-        BookAnswer::Refused(_, _) => true,
-    }
-}
-
 // Runs a book and writes its output from the start of `out`. Gives the output's length, and whether
 // the book was refused.
+#[tactic(auto, unfolding(crate::specs::Report::report_of, crate::specs::Report::book_refused))]
 pub fn report(book: &[u8], out: &mut [u8; 204_800]) -> Written
     ensures length { result.length ≡ length (report_of book.now) }
     ensures refused { result.refused ≡ book_refused book.now }
@@ -59,6 +46,8 @@ pub fn report(book: &[u8], out: &mut [u8; 204_800]) -> Written
     let mut rows = [0u64; 8400];
     let answer = run_book(book, &mut rows);
     let length = write_answer(answer, &rows, out);
-    let refused = is_refused(answer);
-    Written { length, refused }
+    Written {
+        length,
+        refused: answer.is_err(),
+    }
 }

@@ -1,31 +1,33 @@
 -- Laws of rows, once for any kind of row and width: the first row and the later ones, how many numbers are read, and the
 -- slice that they are put in. Then the two kinds, and the values of their lines.
 -- Assumes nothing.
+use Rattle.std.specs.Prelude.{Option, Some, None, Result, Ok, Err}
+use Rattle.std.specs.Option.{ok_or}
+use Rattle.std.specs.Result.{result_ok}
+use Rattle.month_refusals.specs.Asked.{◌on◌}
 use mathlib.Core.Path.{◌≡◌, refl, sym, ◌∙◌, ap}
-use mathlib.Core.List.{List, [], ◌++◌, append-nil, append_assoc}
+use mathlib.Core.List.{List, [], ◌∷◌, ◌++◌, append-nil, append_assoc}
 use Prim.Native.Nat.{ℕ, zero, suc, ◌+◌, ◌-◌, ◌*◌, ◌≤◌, ◌<◌, ◌^◌}
 use native.Mathlib.Nat.{add-suc, sub-zero, add-zero, mul-zero, mul-le-mul_left}
 use native.Mathlib.Numerals.{add-one}
 use native.Mathlib.Omega.{arith}
-use lib.IntN.{ℤ}
+use lib.IntN.{ℤ, pos}
+use mir.Syntax.{w64}
+use mir.Val.{SFits, to_z, of_z}
+use mir.Facts.{to_z_pos, to_z-of_z}
 use lib.ListN.{length, take, drop, length-append, drop_of_length-le, take-append-drop}
 use lib.Seq.{sets, length-sets, length-take-le, take_at, drop-drop}
 use Rattle.month_state.proofs.Counting.{sub-suc, none_left}
-use Rattle.list_rows.specs.Rows.{weather_width, land_width}
+use Rattle.list_rows.specs.Rows.{weather_width, land_width, land_numbers}
 use Rattle.month_layouts.proofs.Layouts.{put_taken, put_dropped}
 use Rattle.list_rows.proofs.Layouts.{weather_of_length, land_of_length}
 use Rattle.month_refusals.specs.declared.Refusal.{Refusal}
-use Rattle.book_lines.specs.declared.LandLine.{LandLine}
+use Rattle.book_lines.specs.declared.WeatherNumbers.{WeatherNumbers}
+use Rattle.book_lines.specs.declared.LandNumbers.{LandNumbers}
 use Rattle.book_lines.specs.Lines.{weather_line, land_line}
 use Rattle.book_lines.proofs.Laws.{weather_read, land_read}
-use Rattle.book_rows.specs.declared.RowsEnd.{RowsEnd}
-use Rattle.book_rows.specs.declared.RowsEnd.TheVariants as ends
-use Rattle.book_rows.specs.declared.WeatherRow.{WeatherRow}
-use Rattle.book_rows.specs.declared.WeatherRow.TheVariants as weathers
-use Rattle.book_rows.specs.declared.LandRow.{LandRow}
-use Rattle.book_rows.specs.declared.LandRow.TheVariants as lands
-use Rattle.book_rows.specs.Rows.{LineFits, weather_row, land_row, RowGives, numbers, refused, weather_gives, land_gives}
-use Rattle.book_rows.specs.Rows.{RowsRead, row_then, read_rows, begun_with, read_weather, read_land}
+use Rattle.book_rows.specs.Rows.{RowsEnd, WeatherRow, LandRow, RowsRead, row_then, read_rows, begun_with, read_weather, read_land}
+use Rattle.book_rows.specs.Rows.{weather_for, land_of, LineFits, weather_row, land_row, RowGives, numbers, refused, weather_gives, land_gives}
 
 -- ---- numbers that fit
 
@@ -33,17 +35,57 @@ use Rattle.book_rows.specs.Rows.{RowsRead, row_then, read_rows, begun_with, read
 pub weather_fits : (s : List ℕ) (place : ℕ) → LineFits (weather_line s place)
 weather_fits s place =
     record {
-      values = λ temperature rain evaporation next h.
-          let read = weather_read s place temperature rain evaporation next h in
+      values = λ n next h.
+          let read = weather_read s place n next h in
           (omega (arith, read.rain_below), omega (arith, read.evaporation_below));
     }
 
 pub land_fits :
-    (s : List ℕ) (place cover plant manure next : ℕ) → land_line s place ≡ LandLine.Row cover plant manure next
-    → (cover < 2 ^ 63) × (plant < 2 ^ 63) × (manure < 2 ^ 63)
-land_fits s place cover plant manure next h =
-    let read = land_read s place cover plant manure next h in
+    (s : List ℕ) (place : ℕ) (n : LandNumbers) (next : ℕ) → land_line s place ≡ Some (n, next)
+    → (n.cover < 2 ^ 63) × (n.plant < 2 ^ 63) × (n.manure < 2 ^ 63)
+land_fits s place n next h =
+    let read = land_read s place n next h in
     (omega (arith, read.cover-below), omega (arith, read.plant-below), omega (arith, read.manure-below))
+
+-- What `ok_or` gives of a line: a line that it lets by is there, ..
+pub line_there :
+    {A E : Type 0} (line : Option A) (malformed : E) {given : Result A E} {x : A} → given ≡ ok_or line malformed → given ≡ Ok x
+    → line ≡ Some x
+line_there (Some y) malformed made is = ap result_ok (sym made ∙ is)
+line_there None malformed made is = ap result_ok (sym made ∙ is)
+
+abbrev pub error_or : {A E : Type 0} → E → Result A E → E
+error_or e₀ (Ok x) = e₀
+error_or e₀ (Err e) = e
+
+-- .. and one that it refuses isn't.
+pub line_missing :
+    {A E : Type 0} (line : Option A) (malformed : E) {given : Result A E} {e : E} → given ≡ ok_or line malformed → given ≡ Err e
+    → (line ≡ None) × (malformed ≡ e)
+line_missing (Some y) malformed made is = (ap result_ok (sym made ∙ is), ap (error_or malformed) (sym made ∙ is))
+line_missing None malformed made is = (ap result_ok (sym made ∙ is), ap (error_or malformed) (sym made ∙ is))
+
+-- Numbers of a line go into its row as bits, which are read back.
+abbrev pub bits : ℤ → ℤ
+bits z = to_z w64 (of_z w64 z)
+
+pub weather_bits :
+    (source : ℤ) (n : WeatherNumbers) → SFits w64 source → SFits w64 n.temperature → (n.rain < 2 ^ 63) × (n.evaporation < 2 ^ 63)
+    → record { temperature = bits n.temperature; rain = to_z w64 n.rain; evaporation = to_z w64 n.evaporation; source = bits source }
+    ≡ weather_for source n.temperature n.rain n.evaporation
+weather_bits source n known warm fits =
+    λ i. record {
+      temperature = to_z-of_z {w = w64} warm i;
+      rain = to_z_pos w64 fits.0 i;
+      evaporation = to_z_pos w64 fits.1 i;
+      source = to_z-of_z {w = w64} known i;
+    }
+
+pub land_bits :
+    (n : LandNumbers) → (n.cover < 2 ^ 63) × (n.plant < 2 ^ 63) × (n.manure < 2 ^ 63)
+    → to_z w64 n.cover ∷ to_z w64 n.plant ∷ to_z w64 n.manure ∷ pos 1000 ∷ [] ≡ land_numbers (land_of n.cover n.plant n.manure)
+unfolding land_numbers
+land_bits n fits = λ i. to_z_pos w64 fits.0 i ∷ to_z_pos w64 fits.1 i ∷ to_z_pos w64 fits.2 i ∷ pos 1000 ∷ []
 
 -- ---- the first row and the later ones
 
@@ -58,7 +100,7 @@ nothing_read end = record { numbers = []; ends = end }
 module _ (row : List ℕ → ℕ → ℕ → RowGives) (left : ℕ) (s : List ℕ) (place line : ℕ) where
   pub row-refused :
       (refusal : Refusal) → row s place line ≡ refused refusal
-      → read_rows row (suc left) s place line ≡ nothing_read (ends.Refused refusal line)
+      → read_rows row (suc left) s place line ≡ nothing_read (Err (refusal on line))
   unfolding read_rows
   row-refused refusal h = rw h
 
@@ -95,8 +137,8 @@ module _ (width : ℕ) where
 
   full_then :
       (given : RowGives) (line left end : ℕ) (later : ℕ → RowsRead) → Wide width given
-      → ((next : ℕ) → (later next).ends ≡ ends.Next end → length (later next).numbers ≡ width * left)
-      → (row_then given line later).ends ≡ ends.Next end → length (row_then given line later).numbers ≡ width * suc left
+      → ((next : ℕ) → (later next).ends ≡ Ok end → length (later next).numbers ≡ width * left)
+      → (row_then given line later).ends ≡ Ok end → length (row_then given line later).numbers ≡ width * suc left
   full_then (numbers found next) line left end later (wide is) rest h =
       simp length-append (omega (arith, is, rest next h))
   full_then (refused refusal) line left end later none rest h = absurd (let z : ◌≡◌ {A = ℕ} 0 1 = cc in omega arith)
@@ -114,7 +156,7 @@ module _ (width : ℕ) where
 
       -- .. where reading ends with the next line, of all of them.
       pub full :
-          (left : ℕ) (s : List ℕ) (place line end : ℕ) → (read_rows row left s place line).ends ≡ ends.Next end
+          (left : ℕ) (s : List ℕ) (place line end : ℕ) → (read_rows row left s place line).ends ≡ Ok end
           → length (read_rows row left s place line).numbers ≡ width * left
       unfolding read_rows
       full zero s place line end h = rw mul-zero
@@ -220,12 +262,12 @@ module _ {row : List ℕ → ℕ → ℕ → RowGives} {width : ℕ} {s : List �
     -- with a row that is refused, ..
     pub ends-refused :
         {refusal : Refusal} → i < count → row s next (line + i) ≡ refused refusal
-        → Ended row width s place line count slice₀ slice i (ends.Refused refusal (line + i))
+        → Ended row width s place line count slice₀ slice i (Err (refusal on (line + i)))
     ends-refused {refusal} more is =
         ends-here (rw (sub-suc more) (row-refused row (count - suc i) s next (line + i) refusal is))
 
     -- or after the last one.
-    pub ends_next : count ≤ i → Ended row width s place line count slice₀ slice i (ends.Next next)
+    pub ends_next : count ≤ i → Ended row width s place line count slice₀ slice i (Ok next)
     unfolding read_rows
     ends_next over = ends-here (rw (none_left over))
 
@@ -238,16 +280,16 @@ abbrev pub land_at : List ℕ → ℕ → ℕ → RowGives
 land_at s place line = land_gives (land_row s place)
 
 pub weather_wide : (row : WeatherRow) → Wide weather_width (weather_gives row)
-weather_wide (weathers.Row w next) = wide (weather_of_length w)
-weather_wide (weathers.Refused refusal) = none
+weather_wide (Ok (w, next)) = wide (weather_of_length w)
+weather_wide (Err refusal) = none
 
 land_wide : (row : LandRow) → Wide land_width (land_gives row)
-land_wide (lands.Row l next) = wide (land_of_length l)
-land_wide (lands.Refused refusal) = none
+land_wide (Ok (l, next)) = wide (land_of_length l)
+land_wide (Err refusal) = none
 
 -- Weather that is read to its end has all its rows, ..
 pub weather_full :
-    (count : ℕ) (s : List ℕ) (place line end : ℕ) → (read_weather count s place line).ends ≡ ends.Next end
+    (count : ℕ) (s : List ℕ) (place line end : ℕ) → (read_weather count s place line).ends ≡ Ok end
     → length (read_weather count s place line).numbers ≡ weather_width * count
 unfolding read_weather
 weather_full count s place line end h =

@@ -1,6 +1,9 @@
 -- Rows of a kind, once for every kind (a book's weather and land, a table's): as they are written they are read back, and what was
 -- read is what would be written.
 -- Assumes nothing.
+use Rattle.std.specs.Prelude.{Option, Some, None, Ok, Err}
+use Rattle.book_lines.specs.declared.WeatherNumbers.{WeatherNumbers}
+use Rattle.month_refusals.specs.Asked.{◌on◌, Check}
 use mathlib.Core.Path.{◌≡◌, refl, sym, ◌∙◌, ap}
 use mathlib.Core.Bool.{Bool, true}
 use mathlib.Core.List.{List, [], ◌∷◌, ◌++◌, flat_map, append_assoc}
@@ -13,15 +16,11 @@ use lib.ListN.{length, drop, length-append}
 use Rattle.month_state.specs.declared.Weather.{Weather}
 use Rattle.list_rows.specs.Rows.{weather_width, weather_numbers}
 use Rattle.list_rows.proofs.Layouts.{weather_of_length, weather-same}
-use Rattle.month_refusals.specs.declared.Check.{Check}
-use Rattle.month_refusals.specs.declared.Check.TheVariants.{Pass, Refuse}
 use Rattle.month_refusals.specs.declared.Refusal.{Refusal}
 use Rattle.month_refusals.specs.Refusals.{weather_asked, weather_check}
 use Rattle.month_refusals.proofs.First.{all_own, finds_own}
 use Rattle.month_refusals.proofs.Accepted.{Between, natural_most, weather_ready}
-use Rattle.book_lines.specs.declared.WeatherLine.{WeatherLine}
 use Rattle.book_values.proofs.Texts.{after}
-use Rattle.book_rows.specs.declared.RowsEnd.TheVariants as ends
 use Rattle.book_rows.specs.Rows.{weather_for, weather_passed, as_weather, RowGives, numbers, refused, weather_gives, RowsRead}
 use Rattle.book_rows.specs.Rows.{row_then, read_rows}
 use Rattle.book_rows.specs.RowText.{lines_from, Each, none, more, SoundFrom}
@@ -79,10 +78,10 @@ pub data LinesAre
     : RowsRead → Type 0 where
   written :
       {end : ℕ} (xs : List Row) → length xs ≡ count → Each Good xs → drop at s ≡ lines_from line number xs ++ drop end s
-      → LinesAre line values Good own count s at number (record { numbers = flat_map values xs; ends = ends.Next end })
+      → LinesAre line values Good own count s at number (record { numbers = flat_map values xs; ends = Ok end })
   other :
       {found : List ℤ} {r : Refusal} {place : ℕ} → own r ≡ true
-      → LinesAre line values Good own count s at number (record { numbers = found; ends = ends.Refused r place })
+      → LinesAre line values Good own count s at number (record { numbers = found; ends = Err (r on place) })
 
 module _
     {Row : Type 0}
@@ -99,16 +98,16 @@ module _
         {xs : List Row} (s : List ℕ) (at number : ℕ) (rest : List ℕ) → number + length xs ≤ 10 ^ 10 → Each Good xs
         → drop at s ≡ lines_from line number xs ++ rest
         → ((read_rows row (length xs) s at number).numbers ≡ flat_map values xs)
-        × ((read_rows row (length xs) s at number).ends ≡ ends.Next (at + length (lines_from line number xs)))
+        × ((read_rows row (length xs) s at number).ends ≡ Ok (at + length (lines_from line number xs)))
     unfolding read_rows flat_map lines_from
-    rows_back s at number rest few none e = (refl, ap ends.Next (sym (add-zero at)))
+    rows_back s at number rest few none e = (refl, ap Ok (sym (add-zero at)))
     rows_back s at number rest few (more {x} {xs} good later) e =
         let here : drop at s ≡ line number x ++ (lines_from line (suc number) xs ++ rest) =
         e ∙ append_assoc (line number x) (lines_from line (suc number) xs) rest in
         let next = at + length (line number x) in
         let read = rows_back s next (suc number) rest (omega arith) later (after s at (line number x) (lines_from line (suc number) xs ++ rest) here) in
         rw (kind.back x s at number (lines_from line (suc number) xs ++ rest) (omega arith) good here)
-        (ap (λ (l : List ℤ). values x ++ l) read.0, read.1 ∙ ap ends.Next (simp length-append (omega arith)))
+        (ap (λ (l : List ℤ). values x ++ l) read.0, read.1 ∙ ap Ok (simp length-append (omega arith)))
 
     -- .. and rows that are read are so written.
     one_more :
@@ -177,7 +176,7 @@ degrees : (z : ℤ) → Between (negsuc 399) (pos 500) z → nat_abs z ≤ 500
 degrees (pos n) h = leb→le n 500 h.to.le
 degrees (negsuc n) h = let most : n ≤ 399 = leb→le n 399 h.from.le in omega arith
 
-pub weather-values : (w : Weather) → weather_check w ≡ Pass → WeatherValues w
+pub weather-values : (w : Weather) → weather_check w ≡ Ok tt → WeatherValues w
 weather-values w passes =
     let ready = weather_ready w passes in
     record {
@@ -190,25 +189,26 @@ weather-values w passes =
 pub record WeatherText
     (malformed : Refusal)
     (source : ℤ)
-    (read : List ℕ → ℕ → ℕ → WeatherLine)
+    (read : List ℕ → ℕ → ℕ → Option (WeatherNumbers × ℕ))
     (text : ℕ → ℤ → ℕ → ℕ → List ℕ)
     (own : Refusal → Bool)
     : Type 0 where
   pub reads :
       (s : List ℕ) (at number : ℕ) (temperature : ℤ) (rain evaporation next : ℕ)
-      → read s at number ≡ WeatherLine.Row temperature rain evaporation next
+      → read s at number ≡ Some (record { temperature = temperature; rain = rain; evaporation = evaporation }, next)
       → drop at s ≡ text number temperature rain evaporation ++ drop next s
   pub rounds :
       (s : List ℕ) (at number : ℕ) (temperature : ℤ) (rain evaporation : ℕ) (rest : List ℕ) → number < 10 ^ 10 → nat_abs temperature ≤ 500
       → rain ≤ 20000 → evaporation ≤ 20000 → drop at s ≡ text number temperature rain evaporation ++ rest
-      → read s at number ≡ WeatherLine.Row temperature rain evaporation (at + length (text number temperature rain evaporation))
+      → read s at number
+      ≡ Some (record { temperature = temperature; rain = rain; evaporation = evaporation }, at + length (text number temperature rain evaporation))
   pub form : own malformed ≡ true
   pub asked : (temperature : ℤ) (rain evaporation : ℕ) → all_own own (weather_asked (weather_for source temperature rain evaporation)) ≡ true
 
 module _
     {malformed : Refusal}
     {source : ℤ}
-    {read : List ℕ → ℕ → ℕ → WeatherLine}
+    {read : List ℕ → ℕ → ℕ → Option (WeatherNumbers × ℕ)}
     {text : ℕ → ℤ → ℕ → ℕ → List ℕ}
     {own : Refusal → Bool}
     (weather : WeatherText malformed source read text own)
@@ -231,18 +231,18 @@ module _
         )
 
     weather_by :
-        (s : List ℕ) (at number : ℕ) (line : WeatherLine) → read s at number ≡ line
+        (s : List ℕ) (at number : ℕ) (line : Option (WeatherNumbers × ℕ)) → read s at number ≡ line
         → LineIs line_of weather_numbers (SoundFrom source) own s at number (weather_gives (as_weather malformed source line))
-    weather_by s at number (WeatherLine.Row temperature rain evaporation next) e =
-        by_check (weather_check (weather_for source temperature rain evaporation)) refl
+    weather_by s at number (Some (n, next)) e =
+        by_check (weather_check (weather_for source n.temperature n.rain n.evaporation)) refl
       where
-        by_check : (check : Check) → weather_check (weather_for source temperature rain evaporation) ≡ check
+        by_check : (check : Check) → weather_check (weather_for source n.temperature n.rain n.evaporation) ≡ check
             → LineIs line_of weather_numbers (SoundFrom source) own s at number
-            (weather_gives (weather_passed check (weather_for source temperature rain evaporation) next))
-        by_check Pass pass =
-            written (record { of_line = refl; passes = pass }) (weather.reads s at number temperature rain evaporation next e)
-        by_check (Refuse r) h = other (finds_own own _ (weather.asked temperature rain evaporation) h)
-    weather_by s at number WeatherLine.Malformed e = other weather.form
+            (weather_gives (weather_passed check (weather_for source n.temperature n.rain n.evaporation) next))
+        by_check (Ok _) pass =
+            written (record { of_line = refl; passes = pass }) (weather.reads s at number n.temperature n.rain n.evaporation next e)
+        by_check (Err r) h = other (finds_own own _ (weather.asked n.temperature n.rain n.evaporation) h)
+    weather_by s at number None e = other weather.form
 
     pub weather-rows :
         Kind weather_width (λ s at number. weather_gives (as_weather malformed source (read s at number))) line_of weather_numbers

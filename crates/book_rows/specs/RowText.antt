@@ -1,7 +1,6 @@
 -- Rows as they are written, one line after another: those of a book's section, and of a table.
-use Rattle.std.specs.Prelude.{◌≡◌, List, [], ◌∷◌, ◌++◌, ℕ, suc, ◌≤◌, ℤ, nat_abs}
+use Rattle.std.specs.Prelude.{Ok, ◌≡◌, List, [], ◌∷◌, ◌++◌, ℕ, suc, ◌≤◌, ℤ, nat_abs}
 use Rattle.month_state.specs.declared.Weather.{Weather}
-use Rattle.month_refusals.specs.declared.Check.TheVariants.{Pass}
 use Rattle.month_refusals.specs.Refusals.{weather_check}
 use Rattle.book_rows.specs.Rows.{weather_for}
 
@@ -21,7 +20,7 @@ pub data Each {A : Type 0} (P : A → Type 0) : List A → Type 0 where
 pub record SoundFrom (source : ℤ) (w : Weather) : Type 0 where
   pub of_line :
       weather_for source w.temperature (nat_abs w.rain) (nat_abs w.evaporation) ≡ w
-  pub passes : weather_check w ≡ Pass
+  pub passes : weather_check w ≡ Ok tt
 
 -- 3: a count is from 1 to 1,200.
 pub record Counted (n : ℕ) : Type 0 where

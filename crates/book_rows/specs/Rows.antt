@@ -1,24 +1,31 @@
 -- The rows of a text's lines, one after another, up to the first that is at fault: those of the
 -- book's WEATHER and LAND sections, and of a table. A byte is a number, a text a list of bytes, and
 -- `place` where a line begins.
+use Rattle.std.specs.Prelude.{Option, Some, None, Result, Ok, Err}
+use Rattle.book_lines.specs.declared.WeatherNumbers.{WeatherNumbers}
+use Rattle.book_lines.specs.declared.LandNumbers.{LandNumbers}
+use Rattle.month_refusals.specs.declared.RefusedAt.{RefusedAt}
+use Rattle.month_refusals.specs.Asked.{◌on◌, Check}
 use Rattle.std.specs.Prelude.{◌≡◌, List, [], ◌++◌, ℕ, zero, suc, ◌<◌, ◌^◌, ℤ, pos, length, drop}
 use Rattle.month_state.specs.declared.Weather.{Weather}
 use Rattle.month_state.specs.declared.Land.{Land}
 use Rattle.list_rows.specs.Rows.{weather_numbers, land_numbers}
-use Rattle.month_refusals.specs.declared.Check.{Check}
-use Rattle.month_refusals.specs.declared.Check.TheVariants.{Pass, Refuse}
 use Rattle.month_refusals.specs.declared.Refusal.{Refusal}
 use Rattle.month_refusals.specs.declared.Refusal.TheVariants.{Form}
 use Rattle.month_refusals.specs.Refusals.{weather_check}
-use Rattle.book_lines.specs.declared.WeatherLine.{WeatherLine}
-use Rattle.book_lines.specs.declared.LandLine.{LandLine}
 use Rattle.book_lines.specs.Lines.{weather_line, land_line}
-use Rattle.book_rows.specs.declared.RowsEnd.{RowsEnd}
-use Rattle.book_rows.specs.declared.RowsEnd.TheVariants as ends
-use Rattle.book_rows.specs.declared.WeatherRow.{WeatherRow}
-use Rattle.book_rows.specs.declared.WeatherRow.TheVariants as weathers
-use Rattle.book_rows.specs.declared.LandRow.{LandRow}
-use Rattle.book_rows.specs.declared.LandRow.TheVariants as lands
+
+-- What a line of weather, or of land, gives: its row with the place of the next line, or why it is
+-- refused.
+abbrev pub WeatherRow : Type 0
+WeatherRow = Result (Weather × ℕ) Refusal
+
+abbrev pub LandRow : Type 0
+LandRow = Result (Land × ℕ) Refusal
+
+-- How reading rows ends: with the place of the next line, or refused on a line.
+abbrev pub RowsEnd : Type 0
+RowsEnd = Result ℕ RefusedAt
 
 -- ---- a line as a row
 
@@ -44,29 +51,28 @@ land_of cover plant manure =
 -- A line of weather: another form is refused by its number (2 in a book, 18 in a table), then 13,
 -- 14 and 19 are asked.
 abbrev pub weather_passed : Check → Weather → ℕ → WeatherRow
-weather_passed Pass w next = weathers.Row w next
-weather_passed (Refuse refusal) w next = weathers.Refused refusal
+weather_passed (Ok _) w next = Ok (w, next)
+weather_passed (Err refusal) w next = Err refusal
 
-abbrev pub as_weather : Refusal → ℤ → WeatherLine → WeatherRow
-as_weather malformed source (WeatherLine.Row temperature rain evaporation next) =
-    weather_passed (weather_check (weather_for source temperature rain evaporation))
-    (weather_for source temperature rain evaporation) next
-as_weather malformed source WeatherLine.Malformed = weathers.Refused malformed
+abbrev pub as_weather : Refusal → ℤ → Option (WeatherNumbers × ℕ) → WeatherRow
+as_weather malformed source (Some (n, next)) =
+    weather_passed (weather_check (weather_for source n.temperature n.rain n.evaporation))
+    (weather_for source n.temperature n.rain n.evaporation) next
+as_weather malformed source None = Err malformed
 
 -- What `as_weather` has to be given: a line whose numbers fit 64 bits with a sign.
-pub record LineFits (line : WeatherLine) : Type 0 where
-  pub values : (temperature : ℤ) (rain evaporation next : ℕ)
-      → line ≡ WeatherLine.Row temperature rain evaporation next
-      → (rain < 2 ^ 63) × (evaporation < 2 ^ 63)
+pub record LineFits (line : Option (WeatherNumbers × ℕ)) : Type 0 where
+  pub values : (n : WeatherNumbers) (next : ℕ)
+      → line ≡ Some (n, next) → (n.rain < 2 ^ 63) × (n.evaporation < 2 ^ 63)
 
 -- A book's weather line.
 unfoldable pub weather_row : List ℕ → ℕ → WeatherRow
 weather_row s place = as_weather Form (pos 0) (weather_line s place)
 
 -- A land line: another form is 2. (15 to 17 and 21 are asked when its month runs.)
-abbrev pub as_land : LandLine → LandRow
-as_land (LandLine.Row cover plant manure next) = lands.Row (land_of cover plant manure) next
-as_land LandLine.Malformed = lands.Refused Form
+abbrev pub as_land : Option (LandNumbers × ℕ) → LandRow
+as_land (Some (n, next)) = Ok ((land_of n.cover n.plant n.manure), next)
+as_land None = Err Form
 
 unfoldable pub land_row : List ℕ → ℕ → LandRow
 land_row s place = as_land (land_line s place)
@@ -79,12 +85,17 @@ pub data RowGives : Type 0 where
   refused : Refusal → RowGives
 
 abbrev pub weather_gives : WeatherRow → RowGives
-weather_gives (weathers.Row w next) = numbers (weather_numbers w) next
-weather_gives (weathers.Refused refusal) = refused refusal
+weather_gives (Ok (w, next)) = numbers (weather_numbers w) next
+weather_gives (Err refusal) = refused refusal
 
 abbrev pub land_gives : LandRow → RowGives
-land_gives (lands.Row l next) = numbers (land_numbers l) next
-land_gives (lands.Refused refusal) = refused refusal
+land_gives (Ok (l, next)) = numbers (land_numbers l) next
+land_gives (Err refusal) = refused refusal
+
+-- What the row of a line gives in code: its four numbers with the place of the next line.
+abbrev pub row_gives : Result (List ℤ × ℕ) Refusal → RowGives
+row_gives (Ok (row, next)) = numbers row next
+row_gives (Err refusal) = refused refusal
 
 -- What reading rows gives: the numbers of those before the first that is at fault, and how it ends:
 -- with the place of the next line, or refused on a line.
@@ -96,11 +107,11 @@ pub record RowsRead : Type 0 where
 abbrev pub row_then : RowGives → ℕ → (ℕ → RowsRead) → RowsRead
 row_then (numbers row next) line later =
     record { numbers = row ++ (later next).numbers; ends = (later next).ends }
-row_then (refused refusal) line later = record { numbers = []; ends = ends.Refused refusal line }
+row_then (refused refusal) line later = record { numbers = []; ends = Err (refusal on line) }
 
 -- So many rows of a kind, from the one at a place and on a line.
 unfoldable pub read_rows : (List ℕ → ℕ → ℕ → RowGives) → ℕ → List ℕ → ℕ → ℕ → RowsRead
-read_rows row zero s place line = record { numbers = []; ends = ends.Next place }
+read_rows row zero s place line = record { numbers = []; ends = Ok place }
 read_rows row (suc left) s place line =
     row_then (row s place line) line (λ next. read_rows row left s next (suc line))
 

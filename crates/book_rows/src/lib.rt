@@ -2,148 +2,123 @@
 // numbers, and a line of weather as a row. specs/Rows.antt says what each function gives.
 #![tactic(auto)]
 
-ghost use Rattle.std.specs.Prelude.{◌≡◌, ◌*◌, ◌≤◌, length};
+ghost use Rattle.std.specs.Prelude.{◌≡◌, ℕ, ◌*◌, ◌≤◌, List, length};
 ghost use Rattle.list_rows.specs.Rows.{weather_width, land_width};
 ghost use Rattle.book_rows.specs.Rows.{LineFits, as_weather, weather_row, land_row};
-ghost use Rattle.book_rows.specs.Rows.{read_weather, read_land, begun_with};
+ghost use Rattle.book_rows.specs.Rows.{RowGives, weather_gives, land_gives, row_gives};
+ghost use Rattle.book_rows.specs.Rows.{read_rows, begun_with};
 
-use book_lines::{LandLine, WeatherLine, land_line, weather_line};
-use list_rows::{put_land, put_weather};
+use book_lines::{LandNumbers, WeatherNumbers, land_line, weather_line};
+use list_rows::put_numbers;
 use month_checks::check_weather;
-use month_refusals::{Check, Refusal};
+use month_refusals::{Refusal, RefusedAt};
 use month_state::{Land, Weather};
 
 // The activity of a book's additions, in thousandths: that of fresh carbon.
 const FRESH: i64 = 1000;
 
-// A weather line: its row with the place of the next line, or why it is refused.
-#[derive(Clone, Copy)]
-pub enum WeatherRow {
-    Row(Weather, usize),
-    Refused(Refusal),
-}
-
-// The same of a land line.
-#[derive(Clone, Copy)]
-pub enum LandRow {
-    Row(Land, usize),
-    Refused(Refusal),
-}
-
-// How reading rows ends: with the place of the next line, or refused on a line.
-#[derive(Clone, Copy)]
-pub enum RowsEnd {
-    Next(usize),
-    Refused(Refusal, u64),
-}
-
 // A line of weather as a row: another form is refused as `malformed`, then 13, 14 and 19 are asked.
-pub fn as_weather(malformed: Refusal, source: i64, line: WeatherLine) -> WeatherRow
+pub fn as_weather(
+    malformed: Refusal,
+    source: i64,
+    line: Option<(WeatherNumbers, usize)>,
+) -> Result<(Weather, usize), Refusal>
     requires { LineFits line }
     ensures { result ≡ as_weather malformed source line }
 {
-    let WeatherLine::Row(temperature, rain, evaporation, next) = line else {
-        return WeatherRow::Refused(malformed);
-    };
+    let (numbers, next) = line.ok_or(malformed)?;
     let row = Weather {
-        temperature,
-        rain: rain as i64,
-        evaporation: evaporation as i64,
+        temperature: numbers.temperature,
+        rain: numbers.rain as i64,
+        evaporation: numbers.evaporation as i64,
         source,
     };
-    match check_weather(row) {
-        Check::Pass => WeatherRow::Row(row, next),
-        Check::Refuse(refusal) => WeatherRow::Refused(refusal),
+    check_weather(row)?;
+    Ok((row, next))
+}
+
+// A kind of line that is a row of four numbers.
+pub trait RowLine {
+    // What the line of this number, at a place of a text, gives.
+    ghost gives: { List ℕ → ℕ → ℕ → RowGives };
+
+    // The row's numbers with the place of the next line, or why it is refused.
+    fn row(s: &[u8], place: usize, line: u64) -> Result<([i64; 4], usize), Refusal>
+        ensures { row_gives result ≡ gives s.now place line };
+}
+
+// A weather line of a book: another form of it is 2.
+pub struct WeatherOfBook;
+
+impl RowLine for WeatherOfBook {
+    ghost gives = { λ s place line. weather_gives (weather_row s place) };
+
+    fn row(s: &[u8], place: usize, _line: u64) -> Result<([i64; 4], usize), Refusal> {
+        let (w, next) = as_weather(Refusal::Form, 0, weather_line(s, place))?;
+        Ok(([w.temperature, w.rain, w.evaporation, w.source], next))
     }
 }
 
-// The weather row at a place of a book: another form of its line is 2.
-fn weather_row(s: &[u8], place: usize) -> WeatherRow
-    ensures { result ≡ weather_row s.now place }
-{
-    let line = weather_line(s, place);
-    as_weather(Refusal::Form, 0, line)
-}
+// A land line of a book: another form of it is 2.
+pub struct LandOfBook;
 
-// The land row at a place: another form of its line is 2.
-fn land_row(s: &[u8], place: usize) -> LandRow
-    ensures { result ≡ land_row s.now place }
-{
-    let LandLine::Row(cover, plant, manure, next) = land_line(s, place) else {
-        return LandRow::Refused(Refusal::Form);
-    };
-    let row = Land {
-        cover: cover as i64,
-        plant: plant as i64,
-        manure: manure as i64,
-        activity: FRESH,
-    };
-    LandRow::Row(row, next)
-}
+impl RowLine for LandOfBook {
+    ghost gives = { λ s place line. land_gives (land_row s place) };
 
-// So many weather rows from a place and a line on. Their numbers are written from the slice's first
-// place on, up to those of the first row that is at fault.
-pub fn read_weather(s: &[u8], place: usize, line: u64, count: usize, weather: &mut [i64]) -> RowsEnd
-    requires { (weather_width * count ≤ length weather.old) × (count ≤ 1200) × (line ≤ 2000) }
-    ensures ends { result ≡ (read_weather count s.now place line).ends }
-    ensures numbers { weather.new
-        ≡ begun_with weather.old
-        (read_weather count s.now place line).numbers }
-{
-    let mut next = place;
-    let mut i = 0;
-    while i < count {
-        let row = weather_row(s, next);
-        match row {
-            WeatherRow::Row(found, after) => {
-                put_weather(weather, i, found);
-                next = after;
-                i += 1;
-            }
-            WeatherRow::Refused(refusal) => {
-                return RowsEnd::Refused(refusal, line + i as u64);
-            }
-        }
+    fn row(s: &[u8], place: usize, _line: u64) -> Result<([i64; 4], usize), Refusal> {
+        let (numbers, next) = land_line(s, place).ok_or(Refusal::Form)?;
+        let LandNumbers {
+            cover,
+            plant,
+            manure,
+        } = numbers;
+        Ok(([cover as i64, plant as i64, manure as i64, FRESH], next))
     }
-    RowsEnd::Next(next)
 }
 
-// What reading land rows gives: how many were read, and how it ended.
+// How reading rows ends: with the place of the next line, or refused on a line.
+pub type RowsEnd = Result<usize, RefusedAt>;
+
+// What reading rows gives: how many were read, and how it ended.
 #[derive(Clone, Copy)]
-pub struct LandEnd {
+pub struct RowsRead {
     pub rows: usize,
     pub ends: RowsEnd,
 }
 
-// The same of land rows, with the number of rows read.
-pub fn read_land(s: &[u8], place: usize, line: u64, count: usize, land: &mut [i64]) -> LandEnd
-    requires { (land_width * count ≤ length land.old) × (count ≤ 1200) × (line ≤ 2000) }
-    ensures rows { land_width * result.rows
-        ≡ length (read_land count s.now place line).numbers }
-    ensures ends { result.ends ≡ (read_land count s.now place line).ends }
-    ensures numbers { land.new
-        ≡ begun_with land.old (read_land count s.now place line).numbers }
+// So many rows of a kind from a place and a line on. Their numbers are written from the slice's
+// first place on, up to those of the first row that is at fault.
+pub fn read_rows<R: RowLine>(
+    s: &[u8],
+    place: usize,
+    line: u64,
+    count: usize,
+    numbers: &mut [i64],
+) -> RowsRead
+    requires { (weather_width * count ≤ length numbers.old) × (count ≤ 1200) × (line ≤ 2000) }
+    ensures rows { weather_width * result.rows
+        ≡ length (read_rows R.gives count s.now place line).numbers }
+    ensures ends { result.ends ≡ (read_rows R.gives count s.now place line).ends }
+    ensures numbers { numbers.new
+        ≡ begun_with numbers.old (read_rows R.gives count s.now place line).numbers }
 {
     let mut next = place;
-    let mut i = 0;
-    while i < count {
-        let row = land_row(s, next);
-        match row {
-            LandRow::Row(found, after) => {
-                put_land(land, i, found);
+    for i in 0..count {
+        let on = line + i as u64;
+        match R::row(s, next, on) {
+            Ok(found) => {
+                let (row, after) = found;
+                put_numbers(numbers, i, row);
                 next = after;
-                i += 1;
             }
-            LandRow::Refused(refusal) => {
-                return LandEnd {
-                    rows: i,
-                    ends: RowsEnd::Refused(refusal, line + i as u64),
-                };
+            Err(refusal) => {
+                let ends = Err(RefusedAt { refusal, place: on });
+                return RowsRead { rows: i, ends };
             }
         }
     }
-    LandEnd {
-        rows: i,
-        ends: RowsEnd::Next(next),
+    RowsRead {
+        rows: count,
+        ends: Ok(next),
     }
 }

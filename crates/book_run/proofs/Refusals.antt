@@ -3,6 +3,10 @@
 -- A section is its first line, by cases, and what follows. Only the land takes more: the book reads its rows up to the first
 -- that is malformed and then runs their months, where the questions are asked line by line.
 -- Assumes nothing.
+use Rattle.std.specs.Prelude.{Option, Some, None, Ok, Err}
+use Rattle.book_lines.specs.declared.SoilNumbers.{SoilNumbers}
+use Rattle.book_lines.specs.declared.LandNumbers.{LandNumbers}
+use Rattle.month_refusals.specs.Asked.{◌on◌, Check, ◌if◌, first_of, Placed, at, Found, refused, found, told, number_and_place, Exactly}
 use mathlib.Core.Path.{◌≡◌, refl, sym, ◌∙◌, ap}
 use mathlib.Core.Bool.{Bool, true, false, not, cond}
 use mathlib.Core.List.{List, [], ◌∷◌, ◌++◌, append_assoc}
@@ -15,40 +19,30 @@ use Rattle.number_units.specs.declared.Grams.{Grams}
 use Rattle.month_state.specs.declared.State.{State}
 use Rattle.month_state.specs.declared.Land.{Land}
 use Rattle.month_state.specs.State.{new_state}
-use Rattle.list_rows.specs.Rows.{land_width, land_numbers}
+use Rattle.list_rows.specs.Rows.{land_width, land_numbers, land_rows, entries_at}
 use Rattle.list_rows.proofs.Layouts.{land_of_length, land-back}
-use Rattle.month_refusals.specs.declared.Check.{Check}
-use Rattle.month_refusals.specs.declared.Check.TheVariants.{Pass, Refuse}
 use Rattle.month_refusals.specs.declared.Refusal.{Refusal}
 use Rattle.month_refusals.specs.declared.Refusal.TheVariants.{Length, Form, Rows}
-use Rattle.month_refusals.specs.Asked.{◌if◌, first_of, Placed, at, Found, refused, found, told, number_and_place, Exactly}
 use Rattle.month_refusals.specs.Refusals.{soil_asked, soil_check, entries_asked, entries_check}
 use Rattle.month_refusals.proofs.First.{found_later, or_else, found_at, found-append, found_then, exactly}
 use Rattle.month_call.specs.Month.{list_month}
-use Rattle.list_rows.specs.Rows.{land_rows, entries_at}
-use Rattle.list_run.specs.declared.ListAnswer.{ListAnswer}
-use Rattle.list_run.specs.declared.ListAnswer.TheVariants as lists
-use Rattle.list_run.specs.Run.{months_asked, list_found}
+use Rattle.list_run.specs.Run.{ListAnswer, months_asked}
+use Rattle.month_refusals.specs.Asked.{placed_found, placed_told}
 use Rattle.list_run.proofs.Refusals.{months-found}
-use Rattle.book_values.specs.declared.Value.{Value}
-use Rattle.book_lines.specs.declared.SoilLine.{SoilLine}
-use Rattle.book_lines.specs.declared.LandLine.{LandLine}
 use Rattle.book_lines.specs.Lines.{head_line, soil_line, weather_line, land_line}
-use Rattle.book_rows.specs.declared.RowsEnd.{RowsEnd}
-use Rattle.book_rows.specs.declared.RowsEnd.TheVariants as ends
+use Rattle.book_rows.specs.Rows.{RowsEnd}
 use Rattle.book_rows.specs.Rows.{land_of, weather_row, as_land, land_row, land_gives, RowsRead, row_then, read_rows, read_weather, read_land}
 use Rattle.book_rows.proofs.Found.{end_finds, weather-found}
-use Rattle.book_run.specs.Book.{BookLeft, refused_on, book_found, book_told, soil_name, weather_name, land_name, not_one, bad_count, headed}
+use Rattle.book_run.specs.declared.Finished.{Finished}
+use Rattle.book_run.specs.Book.{BookLeft, refused_on, soil_name, weather_name, land_name, not_one, bad_count, headed, BookAnswer}
 use Rattle.book_run.specs.Book.{ending, after_rows, after_months, land_months, land_section, land_head, weather_then, weather_section}
 use Rattle.book_run.specs.Book.{weather_head, soil_of, soil_checked, soil_then, soil_section, book_of}
 use Rattle.book_run.specs.BookAsked.{formed, head_then, month_entries, land_line_then, land_asked_from, weather_lines_asked}
 use Rattle.book_run.specs.BookAsked.{after_weather, land_asked, weather_section_asked, weather_head_asked, soil_line_then, soil_section_asked, book_asked}
-use Rattle.book_run.specs.declared.BookAnswer.{BookAnswer}
-use Rattle.book_run.specs.declared.BookAnswer.TheVariants.{Finished, Refused}
 
 -- What a book leaves finds.
 abbrev finding : BookLeft → Found
-finding left = book_found left.answer
+finding left = placed_found left.answer
 
 -- ---- a section's head
 
@@ -62,25 +56,26 @@ one_found false refusal line rows later asked same = same
 
 -- A head, and its section.
 head_found :
-    (value : Value) (bad : ℕ → Bool) (line : ℕ) (rows : List ℕ) (later : ℕ → ℕ → BookLeft) (asked : ℕ → ℕ → List Placed)
+    (value : Option (ℕ × ℕ)) (bad : ℕ → Bool) (line : ℕ) (rows : List ℕ) (later : ℕ → ℕ → BookLeft) (asked : ℕ → ℕ → List Placed)
     → ((count next : ℕ) → finding (later count next) ≡ found (asked count next))
     → finding (headed value bad line rows later) ≡ found (head_then value bad line asked)
 unfolding found at
-head_found (Value.Number count next) bad line rows later asked same =
+head_found (Some (count, next)) bad line rows later asked same =
     one_found (bad count) Rows line rows (later count next) (asked count next) (same count next)
-head_found Value.Malformed bad line rows later asked same = refl
+head_found None bad line rows later asked same = refl
 
 -- ---- the land
 
 -- The months of the rows that were read, and what follows them.
 months_then : (answer : ListAnswer) (head : ℕ) (later : BookAnswer)
-    → book_found (after_months answer head later) ≡ or_else (found_later head (list_found answer)) (book_found later)
-months_then lists.Finished head later = refl
-months_then (lists.Refused refusal place) head later = refl
+    → placed_found (after_months answer head later) ≡ or_else (found_later head (placed_found answer)) (placed_found later)
+months_then (Ok _) head later = refl
+months_then (Err e) head later = refl
 
 -- The end of the book.
 end-found : (test : Bool) (line months : ℕ) (pools co2 : Grams)
-    → book_found (cond test (Finished months pools co2) (Refused Form line)) ≡ found (at line ((Form if not test) ∷ []))
+    → placed_found {Given = Finished} (cond test (Ok (record { months = months; total = pools; co2 = co2 })) (Err (Form on line)))
+    ≡ found (at line ((Form if not test) ∷ []))
 unfolding found at
 end-found true line months pools co2 = refl
 end-found false line months pools co2 = refl
@@ -89,8 +84,8 @@ end-found false line months pools co2 = refl
 month_then :
     (check : Check) (head place line : ℕ) (months end rest : Found) → line ≡ head + place → or_else (found_later head months) end ≡ rest
     → or_else (found_later head (or_else (found_at place check) months)) end ≡ or_else (found_at line check) rest
-month_then Pass head place line months end rest there same = same
-month_then (Refuse refusal) head place line months end rest there same = ap (refused refusal) (sym there)
+month_then (Ok _) head place line months end rest there same = same
+month_then (Err refusal) head place line months end rest there same = ap (refused refusal) (sym there)
 
 -- The month of a row, behind the numbers of the j rows before it, and the months after it.
 module _ (weather before later : List ℤ) (l : Land) (j : ℕ) (long : length before ≡ land_width * j) where
@@ -114,26 +109,26 @@ module _ (s : List ℕ) (weather : List ℤ) (head last count : ℕ) (reached : 
   abbrev land_finds : RowsRead → List ℤ → ℕ → State → Found
   land_finds land before j state =
       or_else (found_later head (found (months_asked (land_rows land.numbers) weather (before ++ land.numbers) j state)))
-      (book_found (after_rows land.ends s last count reached))
+      (placed_found (after_rows land.ends s last count reached))
 
   -- One line, and those after it.
   land_line_lem :
-      (row : LandLine) (line j : ℕ) (state : State) (before : List ℤ) (later : ℕ → RowsRead) (asked : ℕ → State → List Placed)
+      (row : Option (LandNumbers × ℕ)) (line j : ℕ) (state : State) (before : List ℤ) (later : ℕ → RowsRead) (asked : ℕ → State → List Placed)
       → length before ≡ land_width * j → line ≡ head + (j + 1)
       → ((next : ℕ) (state' : State) (before' : List ℤ) → length before' ≡ land_width * suc j
       → land_finds (later next) before' (suc j) state' ≡ found (asked next state'))
       → land_finds (row_then (land_gives (as_land row)) line later) before j state ≡ found (land_line_then row line weather j state asked)
   unfolding found at first_of months_asked
-  land_line_lem (LandLine.Row cover plant manure next) line j state before later asked long there same =
-      let l = land_of cover plant manure in
+  land_line_lem (Some (n, next)) line j state before later asked long there same =
+      let l = land_of n.cover n.plant n.manure in
       let e = month_entries weather j l in
       ap
-      (λ (months : Found). or_else (found_later head months) (book_found (after_rows (later next).ends s last count reached)))
+      (λ (months : Found). or_else (found_later head months) (placed_found (after_rows (later next).ends s last count reached)))
       (ap found (row-months weather before (later next).numbers l j long state) ∙ found_then (j + 1) (entries_asked state e) _)
       ∙ month_then (entries_check state e) head (j + 1) line _ _ _ there
       (same next _ (before ++ land_numbers l) (omega (arith, length-append before (land_numbers l), land_of_length l)))
       ∙ sym (found_then line (formed (entries_asked state e)) _)
-  land_line_lem LandLine.Malformed line j state before later asked long there same = refl
+  land_line_lem None line j state before later asked long there same = refl
 
   -- So many lines, from the one of the month at place j.
   land-found :
@@ -181,8 +176,8 @@ weather_then_lem :
     (end : RowsEnd) (rows : List ℕ) (later : ℕ → BookLeft) (asked : ℕ → List Placed)
     → ((next : ℕ) → finding (later next) ≡ found (asked next))
     → finding (weather_then end rows later) ≡ or_else (end_finds end) (found (after_weather end asked))
-weather_then_lem (ends.Next place) rows later asked same = same place
-weather_then_lem (ends.Refused refusal line) rows later asked same = refl
+weather_then_lem (Ok place) rows later asked same = same place
+weather_then_lem (Err e) rows later asked same = refl
 
 module _ (s : List ℕ) (state : State) (rows : List ℕ) where
   weather_section_found :
@@ -203,18 +198,18 @@ module _ (s : List ℕ) (state : State) (rows : List ℕ) where
 soil_checked_lem :
     (check : Check) (rows : List ℕ) (later : BookLeft) (rest : Found) → finding later ≡ rest
     → finding (soil_checked check rows later) ≡ or_else (found_at 2 check) rest
-soil_checked_lem Pass rows later rest same = same
-soil_checked_lem (Refuse refusal) rows later rest same = refl
+soil_checked_lem (Ok _) rows later rest same = same
+soil_checked_lem (Err refusal) rows later rest same = refl
 
 soil-found :
-    (line : SoilLine) (rows : List ℕ) (later : State → ℕ → BookLeft) (asked : State → ℕ → List Placed)
+    (line : Option (SoilNumbers × ℕ)) (rows : List ℕ) (later : State → ℕ → BookLeft) (asked : State → ℕ → List Placed)
     → ((state : State) (next : ℕ) → finding (later state next) ≡ found (asked state next))
     → finding (soil_then line rows later) ≡ found (soil_line_then line asked)
 unfolding found at first_of
-soil-found (SoilLine.Row numbers next) rows later asked same =
+soil-found (Some (numbers, next)) rows later asked same =
     soil_checked_lem (soil_check (soil_of numbers)) rows _ _ (same (new_state (soil_of numbers)) next)
     ∙ sym (found_then 2 (formed (soil_asked (soil_of numbers))) _)
-soil-found SoilLine.Malformed rows later asked same = refl
+soil-found None rows later asked same = refl
 
 -- ---- the book
 
@@ -224,16 +219,16 @@ module _ (s rows : List ℕ) where
   soil_section_found place = soil-found (soil_line s place) rows _ _ (λ state next. weather_head_found s state rows next)
 
   -- A book finds the first that applies, ..
-  pub book_found_lem : book_found (book_of s rows).answer ≡ found (book_asked s)
+  pub book_found_lem : placed_found (book_of s rows).answer ≡ found (book_asked s)
   unfolding book_of book_asked
   book_found_lem =
       one_found (ltb 65536 (length s)) Length 0 rows _ _
       (head_found (head_line s 0 soil_name) not_one 1 rows _ _ (λ count next. soil_section_found next))
 
   -- .. gives its number and line, ..
-  pub book_told_lem : book_told (book_of s rows).answer ≡ told (book_asked s)
+  pub book_told_lem : placed_told (book_of s rows).answer ≡ told (book_asked s)
   book_told_lem = ap number_and_place book_found_lem
 
   -- .. and each refusal exactly there.
-  pub book_exactly : Exactly (book_asked s) (book_found (book_of s rows).answer)
+  pub book_exactly : Exactly (book_asked s) (placed_found (book_of s rows).answer)
   book_exactly = exactly book_found_lem

@@ -3,31 +3,27 @@
 -- of the reading's fault. So the earliest faulty line wins (BookAsked.antt, proofs/Refusals.antt).
 -- A byte is a number, a text a list of bytes, and `place` where a line begins. The book begins at
 -- the end of this file, where definitions stand before their use.
+use Rattle.std.specs.Prelude.{Option, Some, None, Result, Ok, Err}
+use Rattle.month_refusals.specs.declared.RefusedAt.{RefusedAt}
+use Rattle.book_run.specs.declared.Finished.{Finished}
+use Rattle.month_refusals.specs.Asked.{◌on◌, Check}
 use Rattle.std.specs.Prelude.{Bool, cond, not, ◌||◌, List, [], ◌∷◌, ℕ, ◌+◌, ltb, eqb, ℤ, length}
 use Rattle.step_pools.specs.Pools.{grams}
 use Rattle.month_state.specs.declared.Soil.{Soil}
 use Rattle.month_state.specs.declared.State.{State}
 use Rattle.month_state.specs.State.{new_state, five_pools}
-use Rattle.month_refusals.specs.declared.NumberAndPlace.{NumberAndPlace}
-use Rattle.month_refusals.specs.declared.Check.{Check}
-use Rattle.month_refusals.specs.declared.Check.TheVariants.{Pass, Refuse}
 use Rattle.month_refusals.specs.declared.Refusal.{Refusal}
 use Rattle.month_refusals.specs.declared.Refusal.TheVariants.{Length, Form, Rows}
-use Rattle.month_refusals.specs.Asked.{Found, nothing, refused, number_and_place}
 use Rattle.month_refusals.specs.Refusals.{soil_check}
 use Rattle.list_rows.specs.Rows.{land_rows}
-use Rattle.list_run.specs.declared.ListAnswer.{ListAnswer}
-use Rattle.list_run.specs.declared.ListAnswer.TheVariants as lists
-use Rattle.list_run.specs.Run.{Left, months}
-use Rattle.book_values.specs.declared.Value.{Value}
+use Rattle.list_run.specs.Run.{ListAnswer, Left, months}
 use Rattle.book_lines.specs.declared.SoilNumbers.{SoilNumbers}
-use Rattle.book_lines.specs.declared.SoilLine.{SoilLine}
 use Rattle.book_lines.specs.Lines.{head_line, soil_line}
-use Rattle.book_rows.specs.declared.RowsEnd.{RowsEnd}
-use Rattle.book_rows.specs.declared.RowsEnd.TheVariants as ends
-use Rattle.book_rows.specs.Rows.{RowsRead, read_weather, read_land}
-use Rattle.book_run.specs.declared.BookAnswer.{BookAnswer}
-use Rattle.book_run.specs.declared.BookAnswer.TheVariants.{Finished, Refused}
+use Rattle.book_rows.specs.Rows.{RowsEnd, RowsRead, read_weather, read_land}
+
+-- A book's answer: it ran to its end, or it is refused on a line.
+abbrev pub BookAnswer : Type 0
+BookAnswer = Result Finished RefusedAt
 
 -- What a book leaves: its answer, and the rows with those of the months that ran.
 pub record BookLeft : Type 0 where
@@ -36,15 +32,7 @@ pub record BookLeft : Type 0 where
 
 -- Refused on a line, the rows as they are.
 abbrev pub refused_on : Refusal → ℕ → List ℕ → BookLeft
-refused_on refusal line rows = record { answer = Refused refusal line; rows = rows }
-
--- What a book's answer says is found, and the papers' number and line of it.
-abbrev pub book_found : BookAnswer → Found
-book_found (Finished months pools co2) = nothing
-book_found (Refused refusal line) = refused refusal line
-
-abbrev pub book_told : BookAnswer → NumberAndPlace
-book_told answer = number_and_place (book_found answer)
+refused_on refusal line rows = record { answer = Err (refusal on line); rows = rows }
 
 -- ---- a section's head
 
@@ -68,10 +56,16 @@ bad_count count = ltb count 1 || ltb 1200 count
 
 -- A head on its line: another form is 2, a bad count 3; else its section follows, with the count
 -- and the place of the next line.
-abbrev pub headed : Value → (ℕ → Bool) → ℕ → List ℕ → (ℕ → ℕ → BookLeft) → BookLeft
-headed (Value.Number count next) bad line rows later =
+abbrev pub headed : Option (ℕ × ℕ) → (ℕ → Bool) → ℕ → List ℕ → (ℕ → ℕ → BookLeft) → BookLeft
+headed (Some (count, next)) bad line rows later =
     cond (bad count) (refused_on Rows line rows) (later count next)
-headed Value.Malformed bad line rows later = refused_on Form line rows
+headed None bad line rows later = refused_on Form line rows
+
+-- The head of the weather or the land on its line, by itself: the count and the place of the next
+-- line.
+abbrev pub counted : Option (ℕ × ℕ) → ℕ → Result (ℕ × ℕ) RefusedAt
+counted (Some (count, next)) line = cond (bad_count count) (Err (Rows on line)) (Ok (count, next))
+counted None line = Err (Form on line)
 
 -- ---- the land, and the end
 
@@ -79,20 +73,21 @@ headed Value.Malformed bad line rows later = refused_on Form line rows
 -- months, five pools, CO2 to date.
 unfoldable pub ending : List ℕ → ℕ → ℕ → ℕ → State → BookAnswer
 ending s place line months state =
-    cond (eqb place (length s)) (Finished months (grams (five_pools state)) state.co2)
-    (Refused Form line)
+    cond (eqb place (length s))
+    (Ok (record { months = months; total = grams (five_pools state); co2 = state.co2 }))
+    (Err (Form on line))
 
 -- After the land rows: the fault that ended their reading, or the end of the book on the line after
 -- them.
 abbrev pub after_rows : RowsEnd → List ℕ → ℕ → ℕ → State → BookAnswer
-after_rows (ends.Next place) s line months state = ending s place line months state
-after_rows (ends.Refused refusal faulty) s line months state = Refused refusal faulty
+after_rows (Ok place) s line months state = ending s place line months state
+after_rows (Err e) s line months state = Err e
 
 -- After the months of the land rows that were read: a refused month on the line of its row, the
 -- land's head being on line `head`; else what follows them.
 abbrev pub after_months : ListAnswer → ℕ → BookAnswer → BookAnswer
-after_months lists.Finished head later = later
-after_months (lists.Refused refusal place) head later = Refused refusal (head + place)
+after_months (Ok _) head later = later
+after_months (Err e) head later = Err (e.refusal on (head + e.place))
 
 -- The months of the land rows that were read, step 7's own.
 abbrev pub land_months : RowsRead → List ℤ → State → List ℕ → Left
@@ -122,8 +117,8 @@ land_head s place line weather state rows =
 
 -- What follows the weather: the refusal, or the land from the next line on.
 abbrev pub weather_then : RowsEnd → List ℕ → (ℕ → BookLeft) → BookLeft
-weather_then (ends.Next place) rows later = later place
-weather_then (ends.Refused refusal line) rows later = refused_on refusal line rows
+weather_then (Ok place) rows later = later place
+weather_then (Err e) rows later = refused_on e.refusal e.place rows
 
 -- n weather rows from line 4 on, then the land, whose head is on line n + 4.
 unfoldable pub weather_section : ℕ → List ℕ → ℕ → State → List ℕ → BookLeft
@@ -154,13 +149,13 @@ soil_of n =
 -- The soil on line 2: another form is 2, then 4 to 7; else the weather follows, and the months
 -- begin with the new state.
 abbrev pub soil_checked : Check → List ℕ → BookLeft → BookLeft
-soil_checked Pass rows later = later
-soil_checked (Refuse refusal) rows later = refused_on refusal 2 rows
+soil_checked (Ok _) rows later = later
+soil_checked (Err refusal) rows later = refused_on refusal 2 rows
 
-abbrev pub soil_then : SoilLine → List ℕ → (State → ℕ → BookLeft) → BookLeft
-soil_then (SoilLine.Row numbers next) rows later =
+abbrev pub soil_then : Option (SoilNumbers × ℕ) → List ℕ → (State → ℕ → BookLeft) → BookLeft
+soil_then (Some (numbers, next)) rows later =
     soil_checked (soil_check (soil_of numbers)) rows (later (new_state (soil_of numbers)) next)
-soil_then SoilLine.Malformed rows later = refused_on Form 2 rows
+soil_then None rows later = refused_on Form 2 rows
 
 unfoldable pub soil_section : List ℕ → ℕ → List ℕ → BookLeft
 soil_section s place rows =

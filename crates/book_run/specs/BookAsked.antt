@@ -2,24 +2,22 @@
 -- number". The first of these that applies is the book's refusal, and its place the line
 -- (proofs/Refusals.antt). Past a line that is malformed nothing is asked any more, whatever stands
 -- in the list.
-use Rattle.std.specs.Prelude.{Bool, true, false, not, List, [], ◌∷◌, ◌++◌, ℕ, zero, suc, ◌+◌, ◌*◌, ◌%◌, ltb, eqb, ℤ, pos, length}
+use Rattle.std.specs.Prelude.{Option, Some, None, Ok, Err}
+use Rattle.book_lines.specs.declared.SoilNumbers.{SoilNumbers}
+use Rattle.book_lines.specs.declared.LandNumbers.{LandNumbers}
+use Rattle.std.specs.Prelude.{Bool, true, false, not, List, [], ◌∷◌, ◌++◌, ℕ, zero, suc, ltb, eqb}
+use Rattle.std.specs.Prelude.{◌+◌, ◌*◌, ◌%◌, ℤ, pos, length}
 use Rattle.month_state.specs.declared.State.{State}
 use Rattle.month_state.specs.declared.Land.{Land}
 use Rattle.month_state.specs.declared.Entries.{Entries}
 use Rattle.month_state.specs.State.{new_state}
-use Rattle.list_rows.specs.Rows.{weather_width, weather_from}
+use Rattle.list_rows.specs.Rows.{weather_width, weather_from, weather_rows}
 use Rattle.month_refusals.specs.declared.Refusal.TheVariants.{Length, Form, Rows}
 use Rattle.month_refusals.specs.Asked.{Asked, ◌if◌, Placed, at}
 use Rattle.month_refusals.specs.Refusals.{soil_asked, entries_asked}
 use Rattle.month_call.specs.Month.{list_month}
-use Rattle.list_rows.specs.Rows.{weather_rows}
-use Rattle.book_values.specs.declared.Value.{Value}
-use Rattle.book_lines.specs.declared.SoilLine.{SoilLine}
-use Rattle.book_lines.specs.declared.LandLine.{LandLine}
 use Rattle.book_lines.specs.Lines.{head_line, soil_line, weather_line, land_line}
-use Rattle.book_rows.specs.declared.RowsEnd.{RowsEnd}
-use Rattle.book_rows.specs.declared.RowsEnd.TheVariants as ends
-use Rattle.book_rows.specs.Rows.{land_of, read_weather}
+use Rattle.book_rows.specs.Rows.{RowsEnd, land_of, read_weather}
 use Rattle.book_rows.specs.RowsAsked.{weather_asked_from}
 use Rattle.book_run.specs.Book.{soil_name, weather_name, land_name, not_one, bad_count, soil_of}
 
@@ -32,16 +30,16 @@ formed values = (Form if false) ∷ values
 
 -- ---- a head
 
-abbrev pub head_asked : Value → (ℕ → Bool) → List Asked
-head_asked (Value.Number count next) bad = formed ((Rows if bad count) ∷ [])
-head_asked Value.Malformed bad = malformed
+abbrev pub head_asked : Option (ℕ × ℕ) → (ℕ → Bool) → List Asked
+head_asked (Some (count, next)) bad = formed ((Rows if bad count) ∷ [])
+head_asked None bad = malformed
 
 -- A head on a line: 2 and 3, and what follows it, from its count and the place of the next line.
-abbrev pub after_head : Value → (ℕ → ℕ → List Placed) → List Placed
-after_head (Value.Number count next) later = later count next
-after_head Value.Malformed later = []
+abbrev pub after_head : Option (ℕ × ℕ) → (ℕ → ℕ → List Placed) → List Placed
+after_head (Some (count, next)) later = later count next
+after_head None later = []
 
-abbrev pub head_then : Value → (ℕ → Bool) → ℕ → (ℕ → ℕ → List Placed) → List Placed
+abbrev pub head_then : Option (ℕ × ℕ) → (ℕ → Bool) → ℕ → (ℕ → ℕ → List Placed) → List Placed
 head_then value bad line later = at line (head_asked value bad) ++ after_head value later
 
 -- ---- land lines
@@ -54,11 +52,12 @@ month_entries weather j l =
 
 -- A land line whose month is the one at place j: 2, then what its month's entries are asked, and
 -- what follows it.
-abbrev pub land_line_then : LandLine → ℕ → List ℤ → ℕ → State → (ℕ → State → List Placed) → List Placed
-land_line_then (LandLine.Row cover plant manure next) line weather j state later =
-    at line (formed (entries_asked state (month_entries weather j (land_of cover plant manure))))
-    ++ later next (list_month state (month_entries weather j (land_of cover plant manure))).state
-land_line_then LandLine.Malformed line weather j state later = at line malformed
+abbrev pub land_line_then :
+    Option (LandNumbers × ℕ) → ℕ → List ℤ → ℕ → State → (ℕ → State → List Placed) → List Placed
+land_line_then (Some (n, next)) line weather j state later =
+    let entries = month_entries weather j (land_of n.cover n.plant n.manure) in
+    at line (formed (entries_asked state entries)) ++ later next (list_month state entries).state
+land_line_then None line weather j state later = at line malformed
 
 -- So many land lines from the one at a place and on a line. After the last one 2 is asked of bytes
 -- that follow, on the line after it.
@@ -79,8 +78,8 @@ weather_lines_asked count s place line =
 
 -- What follows the weather, from the place of the next line.
 abbrev pub after_weather : RowsEnd → (ℕ → List Placed) → List Placed
-after_weather (ends.Next place) later = later place
-after_weather (ends.Refused refusal line) later = []
+after_weather (Ok place) later = later place
+after_weather (Err e) later = []
 
 -- ---- the sections
 
@@ -103,10 +102,10 @@ weather_head_asked s place state =
     (λ count next. weather_section_asked count s next state)
 
 -- The soil on line 2: 2, then 4 to 7, and the weather.
-abbrev pub soil_line_then : SoilLine → (State → ℕ → List Placed) → List Placed
-soil_line_then (SoilLine.Row numbers next) later =
+abbrev pub soil_line_then : Option (SoilNumbers × ℕ) → (State → ℕ → List Placed) → List Placed
+soil_line_then (Some (numbers, next)) later =
     at 2 (formed (soil_asked (soil_of numbers))) ++ later (new_state (soil_of numbers)) next
-soil_line_then SoilLine.Malformed later = at 2 malformed
+soil_line_then None later = at 2 malformed
 
 unfoldable pub soil_section_asked : List ℕ → ℕ → List Placed
 soil_section_asked s place =

@@ -1,5 +1,7 @@
 -- How a value is read: by the byte at its place, then digit by digit, the number staying below 10^10; and what was read.
 -- Assumes nothing.
+use Rattle.std.specs.Prelude.{None, Some}
+use Rattle.std.proofs.lemmas.Option.{none-some, same_Some}
 use mathlib.Core.Path.{◌≡◌, refl, sym, ◌∙◌, ap}
 use mathlib.Core.Bool.{Bool, true, false, true≢false}
 use mathlib.Core.List.{List, [], ◌∷◌, ◌++◌}
@@ -14,8 +16,7 @@ use lib.Dec.{eqb}
 use lib.ListN.{length, get_or, drop, get_or-eq_default}
 use lib.Seq.{drop-cons}
 use Rattle.book_digits.proofs.Digits.{DigitByte, Digits, none, more, folded, one-more-below}
-use Rattle.book_values.specs.declared.Value.{Value}
-use Rattle.book_values.specs.Values.{is_digit, byte_is, more_digits, read_value}
+use Rattle.book_values.specs.Values.{is_digit, digit_at, byte_is, more_digits, read_value}
 
 -- A test is true or false, and not both.
 pub either : (t : Bool) → (t ≡ true) ⊎ (t ≡ false)
@@ -59,13 +60,13 @@ digit_within s at e = elim (dec_lt at (length s)) [
 ]
 
 -- Where no digit is left to read, or none stands there, the reading stops; else it goes on after the digit.
-pub more-none : (left value : ℕ) (s : List ℕ) (at : ℕ) → left ≤ 0 → more_digits left value s at ≡ Value.Number value at
+pub more-none : (left value : ℕ) (s : List ℕ) (at : ℕ) → left ≤ 0 → more_digits left value s at ≡ (value, at)
 unfolding more_digits
 more-none zero value s at h = refl
 more-none (suc left) value s at h = absurd (omega arith)
 
 pub more_stop : (left value : ℕ) (s : List ℕ) (at : ℕ) → is_digit (get_or s at 0) ≡ false →
-    more_digits left value s at ≡ Value.Number value at
+    more_digits left value s at ≡ (value, at)
 unfolding more_digits
 more_stop zero value s at e = refl
 more_stop (suc left) value s at e = rw e
@@ -86,28 +87,80 @@ room_step value digit (suc left) h d room =
 pub room_below : (value left : ℕ) → (value + 1) * 10 ^ left ≤ 10 ^ 10 → value < 10 ^ 10
 room_below value left room = omega (arith, mul-le-mul_left (value + 1) (one-le-pow left 10 (omega arith)))
 
--- A reading of more digits on the way: what is left to read is the whole, and there is room for the digits to come.
-pub record Reading (s : List ℕ) (at first left value next : ℕ) : Type 0 where
-  pub whole : more_digits left value s next ≡ more_digits 9 first s at
-  pub room : (value + 1) * 10 ^ left ≤ 10 ^ 10
+-- The digit at a place, or none there.
+pub digit_some : (s : List ℕ) (at : ℕ) → is_digit (get_or s at 0) ≡ true → digit_at s at ≡ Some (get_or s at 0 - 48)
+unfolding digit_at
+digit_some s at e = rw e
+
+pub digit_none : (s : List ℕ) (at : ℕ) → is_digit (get_or s at 0) ≡ false → digit_at s at ≡ None
+unfolding digit_at
+digit_none s at e = rw e
+
+-- A digit that was found there.
+pub record DigitFound (s : List ℕ) (at digit : ℕ) : Type 0 where
+  pub test : is_digit (get_or s at 0) ≡ true
+  pub is : digit ≡ get_or s at 0 - 48
+  pub byte : DigitByte (get_or s at 0)
+  pub within : at < length s
+
+pub digit_found : (s : List ℕ) (at digit : ℕ) → Some digit ≡ digit_at s at → DigitFound s at digit
+digit_found s at digit e = elim (either (is_digit (get_or s at 0))) [
+  | inl t ↦
+      record {
+        test = t;
+        is = same_Some _ _ (e ∙ digit_some s at t);
+        byte = digit_byte _ t;
+        within = digit_within s at t;
+      }
+  | inr t ↦ absurd (none-some digit (sym (digit_none s at t) ∙ sym e))
+]
+
+pub digit_small : (s : List ℕ) (at digit : ℕ) → Some digit ≡ digit_at s at → digit < 10
+digit_small s at digit e = let d : DigitFound s at digit = digit_found s at digit e in omega (arith, d.is, d.byte)
+
+pub digit_place : (s : List ℕ) (at digit : ℕ) → Some digit ≡ digit_at s at → at < length s
+digit_place s at digit e = (digit_found s at digit e).within
+
+pub digit_missing : (s : List ℕ) (at : ℕ) → None ≡ digit_at s at → is_digit (get_or s at 0) ≡ false
+digit_missing s at e = elim (either (is_digit (get_or s at 0))) [
+  | inl t ↦ absurd (none-some _ (e ∙ digit_some s at t))
+  | inr t ↦ t
+]
+
+-- A reading of more digits on the way, after so many of them: what is left to read is the whole, and there is room for the
+-- digits to come.
+pub record Reading (s : List ℕ) (at first turn value next : ℕ) : Type 0 where
+  pub whole : more_digits (9 - turn) value s next ≡ more_digits 9 first s at
+  pub room : (value + 1) * 10 ^ (9 - turn) ≤ 10 ^ 10
   pub within : next ≤ length s
 
-pub begun : (s : List ℕ) (at first : ℕ) → at ≤ length s → first < 10 → Reading s at first 9 first at
+pub begun : (s : List ℕ) (at first : ℕ) → at ≤ length s → first < 10 → Reading s at first 0 first at
 begun s at first h d =
     record { whole = refl; room = omega arith; within = h }
 
-pub taken : (s : List ℕ) (at first left value next : ℕ) → Reading s at first left value next → 0 < left →
-    is_digit (get_or s next 0) ≡ true → Reading s at first (left - 1) (10 * value + (get_or s next 0 - 48)) (next + 1)
-taken s at first left value next r h e =
-    let b : DigitByte (get_or s next 0) = digit_byte (get_or s next 0) e in
-    record {
-      whole = sym (more_step left value s next h e) ∙ r.whole;
-      room = room_step value (get_or s next 0 - 48) left h (omega arith) r.room;
-      within = omega (arith, digit_within s next e);
-    }
+module _ (s : List ℕ) (at first turn value next : ℕ) (r : Reading s at first turn value next) where
+  pub value_below : value < 10 ^ 10
+  value_below = room_below value (9 - turn) r.room
+
+  pub taken : (digit : ℕ) → turn < 9 → Some digit ≡ digit_at s next →
+      Reading s at first (turn + 1) (10 * value + digit) (next + 1)
+  taken digit h e =
+      let d : DigitFound s next digit = digit_found s next digit e in
+      let left : 9 - (turn + 1) ≡ 9 - turn - 1 = omega arith in
+      record {
+        whole = rw (left, d.is) (sym (more_step (9 - turn) value s next (omega arith) d.test) ∙ r.whole);
+        room = rw left (room_step value digit (9 - turn) (omega arith) (omega (arith, d.byte)) r.room);
+        within = omega (arith, d.within);
+      }
+
+  pub stops : None ≡ digit_at s next → (value, next) ≡ more_digits 9 first s at
+  stops e = sym (more_stop (9 - turn) value s next (digit_missing s next e)) ∙ r.whole
+
+  pub ends : 9 ≤ turn → (value, next) ≡ more_digits 9 first s at
+  ends h = sym (more-none (9 - turn) value s next (omega arith)) ∙ r.whole
 
 -- What stands at a place decides how a value there is read: no digit, the digit 0, or another one.
-pub value_none : (s : List ℕ) (at : ℕ) → is_digit (get_or s at 0) ≡ false → read_value s at ≡ Value.Malformed
+pub value_none : (s : List ℕ) (at : ℕ) → is_digit (get_or s at 0) ≡ false → read_value s at ≡ None
 unfolding read_value
 value_none s at e = rw (ne_eqb (get_or s at 0) 48 (not_zero e), e)
   where
@@ -115,14 +168,29 @@ value_none s at e = rw (ne_eqb (get_or s at 0) 48 (not_zero e), e)
     not_zero e z =
         contrary (ap is_digit z ∙ digit_true (record { low = omega arith; high = omega arith })) e
 
-pub value_zero : (s : List ℕ) (at : ℕ) → get_or s at 0 ≡ 48 → read_value s at ≡ Value.Number 0 (at + 1)
+pub value_zero : (s : List ℕ) (at : ℕ) → get_or s at 0 ≡ 48 → read_value s at ≡ Some (0, at + 1)
 unfolding read_value
 value_zero s at e = rw (eq-eqb (get_or s at 0) 48 e)
 
 pub value_digit : (s : List ℕ) (at : ℕ) → (get_or s at 0 ≡ 48 → ⊥) → is_digit (get_or s at 0) ≡ true →
-    read_value s at ≡ more_digits 9 (get_or s at 0 - 48) s (at + 1)
+    read_value s at ≡ Some (more_digits 9 (get_or s at 0 - 48) s (at + 1))
 unfolding read_value
 value_digit s at z e = rw (ne_eqb (get_or s at 0) 48 z, e)
+
+-- The same by the digit at the place.
+pub value_none_at : (s : List ℕ) (at : ℕ) → None ≡ digit_at s at → None ≡ read_value s at
+value_none_at s at e = sym (value_none s at (digit_missing s at e))
+
+pub value_zero_at : (s : List ℕ) (at digit : ℕ) → Some digit ≡ digit_at s at → digit ≡ 0 → Some (0, at + 1) ≡ read_value s at
+value_zero_at s at digit e z =
+    let d : DigitFound s at digit = digit_found s at digit e in
+    sym (value_zero s at (omega (arith, d.is, d.byte)))
+
+pub value_digit_at : (s : List ℕ) (at digit : ℕ) → Some digit ≡ digit_at s at → (digit ≡ 0 → ⊥) →
+    Some (more_digits 9 digit s (at + 1)) ≡ read_value s at
+value_digit_at s at digit e z =
+    let d : DigitFound s at digit = digit_found s at digit e in
+    rw d.is (sym (value_digit s at (λ byte. z (omega arith)) d.test))
 
 -- A byte that is not 0 stands at a place where it is read there.
 pub byte_is_read : (s : List ℕ) (at byte : ℕ) → 0 < byte → byte_is s at byte ≡ eqb (get_or s at 0) byte
@@ -152,19 +220,9 @@ pub record Took (left value : ℕ) (s : List ℕ) (at n next : ℕ) : Type 0 whe
   pub ends : next ≡ at + length bytes
   pub says : folded value bytes ≡ n
 
-stopped : (left value : ℕ) (s : List ℕ) (at n next : ℕ) → Value.Number value at ≡ Value.Number n next →
-    Took left value s at n next
-stopped left value s at n next e =
-    let ends : at ≡ next = cc in
-    let says : value ≡ n = cc in
-    record {
-      bytes = [];
-      digits = none;
-      few = omega arith;
-      text = ap (λ (k : ℕ). drop k s) ends;
-      ends = omega arith;
-      says = says;
-    }
+stopped : (left value : ℕ) (s : List ℕ) (at : ℕ) → Took left value s at value at
+stopped left value s at =
+    record { bytes = []; digits = none; few = omega arith; text = refl; ends = omega arith; says = refl }
 
 took_one : (left value : ℕ) (s : List ℕ) (at n next : ℕ) → is_digit (get_or s at 0) ≡ true →
     Took left (10 * value + (get_or s at 0 - 48)) s (at + 1) n next → Took (suc left) value s at n next
@@ -180,13 +238,12 @@ took_one left value s at n next e r =
       says = r.says;
     }
 
-pub took : (left value : ℕ) (s : List ℕ) (at n next : ℕ) → more_digits left value s at ≡ Value.Number n next →
-    Took left value s at n next
-took zero value s at n next e = stopped 0 value s at n next (sym (more-none 0 value s at (omega arith)) ∙ e)
-took (suc left) value s at n next e = elim (either (is_digit (get_or s at 0))) [
+pub took : (left value : ℕ) (s : List ℕ) (at : ℕ) →
+    Took left value s at (more_digits left value s at).0 (more_digits left value s at).1
+unfolding more_digits
+took zero value s at = stopped 0 value s at
+took (suc left) value s at = elim (either (is_digit (get_or s at 0))) [
   | inl d ↦
-      let step : more_digits left (10 * value + (get_or s at 0 - 48)) s (at + 1) ≡ Value.Number n next =
-      rw sub-one at (sym (more_step (suc left) value s at (omega arith) d) ∙ e) in
-      took_one left value s at n next d (took left (10 * value + (get_or s at 0 - 48)) s (at + 1) n next step)
-  | inr d ↦ stopped (suc left) value s at n next (sym (more_stop (suc left) value s at d) ∙ e)
+      rw d (took_one left value s at _ _ d (took left (10 * value + (get_or s at 0 - 48)) s (at + 1)))
+  | inr d ↦ rw d (stopped (suc left) value s at)
 ]

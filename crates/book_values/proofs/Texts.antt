@@ -1,5 +1,7 @@
 -- What stands at a place of a text: bytes that were found stand there, and bytes that stand there are found; and what it
 -- means that a number was read. Assumes nothing.
+use Rattle.std.specs.Prelude.{Option, None, Some}
+use Rattle.std.proofs.lemmas.Option.{none-some}
 use mathlib.Core.Path.{◌≡◌, refl, sym, ◌∙◌, ap}
 use mathlib.Core.Bool.{Bool, true, false, cond}
 use mathlib.Core.List.{List, ◌∷◌, ◌++◌, append_assoc}
@@ -11,7 +13,6 @@ use borrow.Author.Tests.{eq-eqb, eqb-true, lt-ltb}
 use lib.Dec.{eqb}
 use lib.ListN.{length, get_or, drop, length-drop}
 use lib.Seq.{get_or-drop, drop-drop, drop-cons, drop-append_seam}
-use Rattle.book_values.specs.declared.Value.{Value}
 use Rattle.book_values.specs.Values.{byte_is}
 use Rattle.book_values.proofs.Reading.{byte_is_within}
 
@@ -73,11 +74,8 @@ part_then s at n part place m more next r below text above within =
       within = within;
     }
 
--- A number was found or was not; and where it was found after a test, the test holds.
-pub none_found : {n next : ℕ} → Value.Malformed ≡ Value.Number n next → ⊥
-none_found e = let clash : ◌≡◌ {A = ℕ} 0 1 = cc in omega arith
-
-pub tested : {A : Type 0} (t : Bool) {some none found : A} → (none ≡ found → ⊥) → cond t some none ≡ found →
-    (t ≡ true) × (some ≡ found)
-tested true never e = (refl, e)
-tested false never e = absurd (never e)
+-- Where something was found after a test, the test holds.
+pub tested : {A : Type 0} (t : Bool) {some : Option A} {found : A} → cond t some None ≡ Some found →
+    (t ≡ true) × (some ≡ Some found)
+tested true e = (refl, e)
+tested {A} false {some} {found} e = absurd (none-some found e)

@@ -1,114 +1,111 @@
-// The values of document 01's book, read at a place of a byte slice. specs/Values.antt says what
-// each function gives.
+// The values of document 01's book, read at a place of a byte slice, each with the place after it.
+// specs/Values.antt says what each function gives. A text and its place stay two parameters, also
+// in the crates above: the text is one and the same and only the place moves on, so that a struct
+// of both would be made anew at each step, and contracts would take it apart.
 #![tactic(auto)]
 
 ghost use Rattle.std.specs.Prelude.{◌≡◌, cond, ℕ, ◌^◌, ◌≤◌, ◌<◌, length};
-ghost use Rattle.book_values.specs.Values.{is_digit, byte_is, more_digits, read_value};
-ghost use Rattle.book_values.specs.Values.{without_minus, after_minus, read_signed};
+ghost use Rattle.book_values.specs.Values.{digit_at, byte_is, past, more_digits, read_value};
+ghost use Rattle.book_values.specs.Values.{minus_at, without_minus, after_minus, read_signed};
 
-// What reading a value finds: the value with the place after it, or no value.
-#[derive(Clone, Copy)]
-pub enum Value {
-    Number(u64, usize),
-    Malformed,
-}
+// A value has up to so many digits after its first one.
+const MORE_DIGITS: usize = 9;
 
-// The same of a value that may have a minus.
-#[derive(Clone, Copy)]
-pub enum Signed {
-    Number(i64, usize),
-    Malformed,
-}
-
-// Whether a byte is a digit.
-#[tactic(auto, using(crate::proofs::Reading::digit_below), unfolding(crate::specs::Values::is_digit))]
-pub fn is_digit(byte: u8) -> bool
-    ensures { result ≡ is_digit byte }
+// The digit at a place of the text.
+#[tactic(auto, unfolding(crate::specs::Values::digit_at, crate::specs::Values::is_digit))]
+pub fn digit_at(s: &[u8], at: usize) -> Option<u64>
+    ensures { result ≡ digit_at s.now at }
 {
-    if byte < 48 {
-        return false;
+    let byte = *s.get(at)?;
+    if byte.is_ascii_digit() {
+        Some(u64::from(byte - b'0'))
+    } else {
+        None
     }
-    byte <= 57
 }
 
 // Whether there is a byte at the place, and it is this one.
+#[tactic(auto, unfolding(crate::specs::Values::byte_is))]
 pub fn byte_is(s: &[u8], at: usize, byte: u8) -> bool
     ensures { result ≡ byte_is s.now at byte }
 {
-    if s.len() <= at {
-        return false;
+    s.get(at) == Some(&byte)
+}
+
+// The place after this byte, where it stands at the place. A byte that is there shows that the
+// place after it is no overflow.
+#[tactic(auto, using(crate::proofs::Reading::byte_is_within), unfolding(crate::specs::Values::past))]
+pub fn past(s: &[u8], at: usize, byte: u8) -> Option<usize>
+    ensures { result ≡ past s.now at byte }
+{
+    if byte_is(s, at, byte) {
+        Some(at + 1)
+    } else {
+        None
     }
-    s[at] == byte
 }
 
 // The digits after a value's first one, which stands before the place.
-fn more_digits(s: &[u8], at: usize, first: u64) -> Value
+#[tactic(auto, using(crate::proofs::Reading::begun, crate::proofs::Reading::value_below, crate::proofs::Reading::digit_small, crate::proofs::Reading::taken, crate::proofs::Reading::stops, crate::proofs::Reading::ends))]
+fn more_digits(s: &[u8], at: usize, first: u64) -> (u64, usize)
     requires { (at ≤ length s.now) × (first < 10) }
     ensures { result ≡ more_digits 9 first s.now at }
 {
-    let mut left: usize = 9;
     let mut value = first;
     let mut next = at;
-    while 0 < left {
-        if s.len() <= next {
-            return Value::Number(value, next);
-        }
-        let byte = s[next];
-        if !is_digit(byte) {
-            return Value::Number(value, next);
-        }
-        value = 10 * value + (byte - 48) as u64;
+    for _ in 0..MORE_DIGITS {
+        let Some(digit) = digit_at(s, next) else {
+            break;
+        };
+        value = 10 * value + digit;
         next += 1;
-        left -= 1;
     }
-    Value::Number(value, next)
+    (value, next)
 }
 
 // The value at a place of the text.
-#[tactic(auto, using(crate::proofs::Reading::value_zero, crate::proofs::Reading::value_digit))]
-pub fn read_value(s: &[u8], at: usize) -> Value
+#[tactic(auto, using(crate::proofs::Reading::digit_small, crate::proofs::Reading::digit_place, crate::proofs::Reading::value_none_at, crate::proofs::Reading::value_zero_at, crate::proofs::Reading::value_digit_at))]
+pub fn read_value(s: &[u8], at: usize) -> Option<(u64, usize)>
     ensures { result ≡ read_value s.now at }
 {
-    if s.len() <= at {
-        return Value::Malformed;
+    match digit_at(s, at)? {
+        0 => Some((0, at + 1)),
+        first => Some(more_digits(s, at + 1, first)),
     }
-    let first = s[at];
-    if first == 48 {
-        return Value::Number(0, at + 1);
-    }
-    if is_digit(first) {
-        more_digits(s, at + 1, (first - 48) as u64)
-    } else {
-        Value::Malformed
+}
+
+// Whether a minus stands at the place, and the place where the value begins.
+#[tactic(auto, unfolding(crate::specs::Values::minus_at, crate::specs::Values::past))]
+pub fn minus_at(s: &[u8], at: usize) -> (bool, usize)
+    ensures { result ≡ minus_at s.now at }
+{
+    match past(s, at, b'-') {
+        Some(first) => (true, first),
+        None => (false, at),
     }
 }
 
 // A value that was read after a minus, or without one. It fits 64 bits with a sign.
-#[tactic(auto, using(crate::proofs::Minus::minus_zero, crate::proofs::Minus::minus_some))]
-pub fn with_sign(minus: bool, value: Value) -> Signed
-    requires { (n next : ℕ) → value ≡ Value.Number n next → n < 2 ^ 63 }
+#[tactic(auto, using(crate::proofs::Minus::less_read), unfolding(crate::specs::Values::after_minus, crate::specs::Values::without_minus))]
+pub fn with_sign(minus: bool, value: Option<(u64, usize)>) -> Option<(i64, usize)>
+    requires { (n next : ℕ) → value ≡ Some (n, next) → n < 2 ^ 63 }
     ensures { result ≡ cond minus (after_minus value) (without_minus value) }
 {
-    let Value::Number(n, next) = value else {
-        return Signed::Malformed;
-    };
-    if minus {
-        if n == 0 {
-            return Signed::Malformed;
-        }
-        return Signed::Number(-(n as i64), next);
+    let (n, next) = value?;
+    if !minus {
+        return Some((n as i64, next));
     }
-    Signed::Number(n as i64, next)
+    if n == 0 {
+        return None;
+    }
+    Some((-(n as i64), next))
 }
 
 // The value at a place of the text, where it may have a minus.
-pub fn read_signed(s: &[u8], at: usize) -> Signed
+#[tactic(auto, using(crate::proofs::Laws::value_fits, crate::proofs::Minus::signed_is), unfolding(crate::specs::Values::read_signed, crate::specs::Values::minus_at))]
+pub fn read_signed(s: &[u8], at: usize) -> Option<(i64, usize)>
     ensures { result ≡ read_signed s.now at }
 {
-    if byte_is(s, at, 45) {
-        let value = read_value(s, at + 1);
-        return with_sign(true, value);
-    }
-    let value = read_value(s, at);
-    with_sign(false, value)
+    let (minus, first) = minus_at(s, at);
+    with_sign(minus, read_value(s, first))
 }

@@ -1,6 +1,7 @@
 -- A list without takings-back: it ends in the state of its calls, and its months that remain are the accepted ones, in their order. These
 -- add the same carbon, and the recurrence goes over them as over all of the calls.
 -- Assumes nothing.
+use Rattle.std.specs.Prelude.{Ok, Err}
 use mathlib.Core.Path.{◌≡◌, refl, sym, ◌∙◌, ap, subst}
 use mathlib.Core.Bool.{Bool, true, false, cond}
 use mathlib.Core.List.{List, [], ◌∷◌, reverse, reverse_aux, reverse-reverse}
@@ -11,8 +12,7 @@ use lib.ListN.{length}
 use Rattle.month_state.specs.declared.Soil.{Soil}
 use Rattle.month_state.specs.declared.State.{State}
 use Rattle.month_state.specs.declared.Entries.{Entries}
-use Rattle.month_refusals.specs.declared.Check.{Check}
-use Rattle.month_refusals.specs.declared.Check.TheVariants.{Pass, Refuse}
+use Rattle.month_refusals.specs.Asked.{Check}
 use Rattle.month_refusals.specs.Refusals.{month_check}
 use Rattle.month_call.specs.Month.{outcome_of, month_call}
 use Rattle.month_demand3.specs.Calls.{Call, state_after, is_done, accepts, run_calls, accepted_calls, added_carbon}
@@ -53,8 +53,8 @@ calls-remaining month_calls f = ap reverse (calls-remain month_calls f []) ∙ r
 -- A refused one leaves the state that it was given.
 unchanged : (check : Check) (t : State) (e : Entries) → is_done (outcome_of check t e).answer ≡ false → (outcome_of check t e).state ≡ t
 unfolding outcome_of
-unchanged Pass t e h = absurd (let z : ◌≡◌ {A = ℕ} 0 1 = cc in omega arith)
-unchanged (Refuse refusal) t e h = refl
+unchanged (Ok _) t e h = absurd (let z : ◌≡◌ {A = ℕ} 0 1 = cc in omega arith)
+unchanged (Err refusal) t e h = refl
 
 module _ (t : State) (c : Call) (later : List Call) where
   refused-same : accepts t c ≡ false → state_after t c ≡ t

@@ -1,6 +1,7 @@
 -- Demand 3 with months taken back: along any list a field holds what Remains.antt says, with as many states kept as its count tells; so it
 -- ends as its months that remain do, of which demand 3 is known. Without takings-back by CallsAlone.antt.
 -- Assumes nothing.
+use Rattle.std.specs.Prelude.{Ok, Err}
 use mathlib.Core.Path.{◌≡◌, refl, sym, ◌∙◌, ap, subst}
 use mathlib.Core.Bool.{true, cond}
 use mathlib.Core.List.{List, [], ◌∷◌, reverse_aux}
@@ -14,11 +15,10 @@ use Rattle.month_state.specs.declared.Soil.{Soil}
 use Rattle.month_state.specs.declared.State.{State}
 use Rattle.month_state.specs.State.{new_state, kept_aside}
 use Rattle.month_layouts.specs.Layouts.{memory_width, state_from}
-use Rattle.month_refusals.specs.declared.Check.{Check}
-use Rattle.month_refusals.specs.declared.Check.TheVariants.{Pass, Refuse}
+use Rattle.month_refusals.specs.Asked.{Check}
 use Rattle.month_refusals.specs.Asked.{first_of}
 use Rattle.month_refusals.specs.Refusals.{soil_check, month_check}
-use Rattle.month_call.specs.declared.Outcome.{Outcome}
+use Rattle.month_state.specs.declared.Outcome.{Outcome}
 use Rattle.month_call.specs.Month.{moved_to, outcome_of, month_call}
 use Rattle.month_call.proofs.Laws.{accepted_runs}
 use Rattle.month_demand3.specs.Calls.{Call, is_done, accepts, run_calls, accepted_calls, added_carbon}
@@ -33,6 +33,7 @@ use Rattle.kept_demand3.specs.Demand.{Lent, EndsAsRemaining, end_of, months_of, 
 use Rattle.kept_demand3.proofs.Remains as months
 use Rattle.kept_demand3.proofs.Remains.{alone, InTurn, Holds, holds-none, holds_moved, holds_taken}
 use Rattle.kept_demand3.proofs.CallsAlone.{accepted_of, calls-state, calls-remaining, accepted-length, accepted-added, accepted_leads}
+use Rattle.month_call.specs.Month.{Answer}
 
 -- ---- along a list
 
@@ -51,8 +52,8 @@ module _ {start : State} (f : Field) {earlier : List Call} (h : HoldsAll start f
       })
       (cond (is_done (outcome_of check f.state c.entries).answer) (c ∷ earlier) earlier)
   unfolding outcome_of moved_to
-  call-holds c Pass is = holds_moved h c is
-  call-holds c (Refuse refusal) is = h
+  call-holds c (Ok _) is = holds_moved h c is
+  call-holds c (Err refusal) is = h
 
   -- A taking-back: one less, or nothing changes.
   back-holds :
@@ -60,10 +61,10 @@ module _ {start : State} (f : Field) {earlier : List Call} (h : HoldsAll start f
       → HoldsAll start (record { state = (take_checked check f.state f.memory).state; memory = f.memory })
       (cond (is_taken (take_checked check f.state f.memory).answer) (drop 1 earlier) earlier)
   unfolding latest state_from
-  back-holds Pass is =
+  back-holds (Ok _) is =
       holds_taken (f.state.kept - 1)
       (subst (λ (n : ℕ). Holds start f n earlier) (omega (arith, some_kept f.state is)) h)
-  back-holds (Refuse refusal) is = h
+  back-holds (Err refusal) is = h
 
 acts_hold : {start : State} (acts : List Act) (f : Field) {earlier : List Call} → HoldsAll start f earlier
     → HoldsAll start (run_acts f acts) (remain f acts earlier)
@@ -81,9 +82,9 @@ alone_runs start [] later = refl
 alone_runs start (c ∷ earlier) later = alone_runs start earlier (c ∷ later)
 
 -- .. and all of them are accepted.
-passed-accepts : (t : State) (c : Call) → month_check t c.number c.entries ≡ Pass → accepts t c ≡ true
+passed-accepts : (t : State) (c : Call) → month_check t c.number c.entries ≡ Ok tt → accepts t c ≡ true
 unfolding outcome_of
-passed-accepts t c passed = ap (λ (o : Outcome). is_done o.answer) (accepted_runs t c.number c.entries passed)
+passed-accepts t c passed = ap (λ (o : Outcome Answer State). is_done o.answer) (accepted_runs t c.number c.entries passed)
 
 all_accepted : {start : State} {earlier : List Call} → InTurn start earlier → (later : List Call)
     → accepted_calls start (reverse_aux earlier later) ≡ length earlier + accepted_calls (alone start earlier) later
@@ -115,7 +116,7 @@ module _ (s : Soil) (four : length s.pools ≡ 4) (memory : List ℕ) (long : le
   unfolding new_state
   new_ends = ends (new_field s memory) (record { pools = four; modern = four; memory = long }) refl acts
 
-  for_acts : soil_check s ≡ Pass → FieldDemand3For s memory acts
+  for_acts : soil_check s ≡ Ok tt → FieldDemand3For s memory acts
   for_acts sound =
       let all = demand3.holds s sound (months_of s memory acts) in
       record {
@@ -160,3 +161,6 @@ field-demand3 =
       begun_with_none = ends;
       without_backs = λ s memory l. record { end = end_is s memory l; months = counted s memory l; carbon = carried s memory l; before = before s memory l };
     }
+
+-- The theorem, as the call names it.
+pub ruleset calling = (field-demand3)

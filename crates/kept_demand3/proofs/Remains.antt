@@ -1,6 +1,7 @@
 -- What a field holds after calls that remain: its state is, the kept ones aside, that of these calls run alone, and the states before the
 -- latest of them stand at their places of the memory. An accepted call and a taking-back keep this.
 -- Assumes nothing.
+use Rattle.std.specs.Prelude.{Ok}
 use mathlib.Core.Path.{◌≡◌, refl, sym, ◌∙◌, ap, subst}
 use mathlib.Core.List.{List, [], ◌∷◌}
 use Prim.Native.Nat.{ℕ, zero, suc, ◌+◌, ◌-◌, ◌≤◌}
@@ -12,9 +13,8 @@ use Rattle.month_state.specs.State.{kept_limit, kept_aside, one_more_kept}
 use Rattle.month_state.proofs.Kept.{one_more, no_more, one-more-most}
 use Rattle.month_layouts.specs.Layouts.{memory_width}
 use Rattle.month_layouts.proofs.Layouts.{Four}
-use Rattle.month_refusals.specs.declared.Check.TheVariants.{Pass}
 use Rattle.month_refusals.specs.Refusals.{month_check}
-use Rattle.month_call.specs.declared.Outcome.{Outcome}
+use Rattle.month_state.specs.declared.Outcome.{Outcome}
 use Rattle.month_call.specs.Month.{moved_to, outcome_of}
 use Rattle.month_call.proofs.Laws.{accepted_runs, accepted_moves}
 use Rattle.month_demand3.specs.Calls.{Call, state_after}
@@ -23,6 +23,7 @@ use Rattle.kept_months.proofs.Laws.{keep-length}
 use Rattle.kept_months.proofs.Places.{read_at, keep_there, keep_others, latest_read}
 use Rattle.kept_demand3.specs.Acts.{Field}
 use Rattle.kept_demand3.proofs.Aside.{same_check, same_outcome}
+use Rattle.month_call.specs.Month.{Answer}
 
 -- ---- calls run alone, the latest first
 
@@ -33,11 +34,11 @@ alone start (c ∷ earlier) = state_after (alone start earlier) c
 -- Each is accepted in its turn, from a state of four pools with at most 24 kept.
 pub data InTurn (start : State) : List Call → Type 0 where
   none : Four start → start.kept ≤ kept_limit → InTurn start []
-  more : {c : Call} {earlier : List Call} → month_check (alone start earlier) c.number c.entries ≡ Pass
+  more : {c : Call} {earlier : List Call} → month_check (alone start earlier) c.number c.entries ≡ Ok tt
       → InTurn start earlier → InTurn start (c ∷ earlier)
 
 -- An accepted call leaves four pools.
-after_four : (t : State) (c : Call) → month_check t c.number c.entries ≡ Pass → Four (state_after t c)
+after_four : (t : State) (c : Call) → month_check t c.number c.entries ≡ Ok tt → Four (state_after t c)
 after_four t c passed =
     let four = (accepted_moves t c.number c.entries passed).four in
     record { pools = four.0; modern = four.1 }
@@ -124,20 +125,20 @@ module _ {start : State} {f : Field} {n : ℕ} {earlier : List Call} (h : Holds 
       }
 
   -- A call that it accepts is accepted after the calls run alone too, ..
-  moved_turns : (c : Call) → month_check f.state c.number c.entries ≡ Pass → InTurn start (c ∷ earlier)
+  moved_turns : (c : Call) → month_check f.state c.number c.entries ≡ Ok tt → InTurn start (c ∷ earlier)
   moved_turns c passed =
       let same = same_check (alone start earlier) f.state (sym h.same) (alone_few h.turns) h.few c.number c.entries in
       more (same ∙ passed) h.turns
 
   -- .. to the same state, the kept ones aside, ..
   moved_same :
-      (c : Call) → month_check f.state c.number c.entries ≡ Pass
-      → kept_aside (outcome_of Pass f.state c.entries).state ≡ kept_aside (alone start (c ∷ earlier))
+      (c : Call) → month_check f.state c.number c.entries ≡ Ok tt
+      → kept_aside (outcome_of (Ok tt) f.state c.entries).state ≡ kept_aside (alone start (c ∷ earlier))
   unfolding alone
   moved_same c passed =
       let same = same_outcome f.state (alone start earlier) h.same h.few (alone_few h.turns) c.number c.entries in
-      ap (λ (o : Outcome). kept_aside o.state) (sym (accepted_runs f.state c.number c.entries passed))
-      ∙ ap (λ (o : Outcome). o.state) same
+      ap (λ (o : Outcome Answer State). kept_aside o.state) (sym (accepted_runs f.state c.number c.entries passed))
+      ∙ ap (λ (o : Outcome Answer State). o.state) same
 
   -- .. and the state before it stands at its place, where the oldest was if 24 are kept.
   moved_kept : (c : Call) → Kept start (keep f.state f.memory) (one_more_kept n) (c ∷ earlier)
@@ -149,8 +150,8 @@ module _ {start : State} {f : Field} {n : ℕ} {earlier : List Call} (h : Holds 
       subst (λ (m : ℕ). Kept start memory m (c ∷ earlier)) before.3 (more there stayed)
 
   pub holds_moved :
-      (c : Call) → month_check f.state c.number c.entries ≡ Pass
-      → Holds start (record { state = (outcome_of Pass f.state c.entries).state; memory = keep f.state f.memory }) (one_more_kept n)
+      (c : Call) → month_check f.state c.number c.entries ≡ Ok tt
+      → Holds start (record { state = (outcome_of (Ok tt) f.state c.entries).state; memory = keep f.state f.memory }) (one_more_kept n)
       (c ∷ earlier)
   unfolding outcome_of moved_to
   holds_moved c passed =

@@ -1,6 +1,7 @@
 -- Taking back restores: months that are accepted and then each taken back leave a field as Remains.antt has it before them, by induction
 -- on the months, each with its own taking-back around those after it. A month booked afresh is then as without them, by Aside.antt.
 -- Assumes nothing.
+use Rattle.std.specs.Prelude.{Ok, Err}
 use mathlib.Core.Path.{◌≡◌, refl, sym, ◌∙◌, ap, subst}
 use mathlib.Core.Bool.{Bool, true, false, cond}
 use mathlib.Core.List.{List, [], ◌∷◌, ◌++◌, append_assoc}
@@ -12,16 +13,14 @@ use Rattle.month_state.specs.declared.State.{State}
 use Rattle.month_state.specs.declared.Entries.{Entries}
 use Rattle.month_state.specs.State.{kept_limit, kept_aside, one_more_kept}
 use Rattle.month_state.proofs.Kept.{one_more}
-use Rattle.month_refusals.specs.declared.Check.{Check}
-use Rattle.month_refusals.specs.declared.Check.TheVariants.{Pass, Refuse}
+use Rattle.month_refusals.specs.Asked.{Check}
 use Rattle.month_refusals.specs.Asked.{first_of}
 use Rattle.month_refusals.specs.Refusals.{month_check}
 use Rattle.month_refusals.proofs.Accepted.{sound-state}
-use Rattle.month_call.specs.declared.Outcome.{Outcome}
+use Rattle.month_state.specs.declared.Outcome.{Outcome}
 use Rattle.month_call.specs.Month.{outcome_of, month_call}
 use Rattle.month_call.proofs.Laws.{accepted, accepted_runs}
 use Rattle.month_demand3.specs.Calls.{Call, state_after, is_done, accepts, accepted_calls}
-use Rattle.kept_months.specs.declared.TakeOutcome.{TakeOutcome}
 use Rattle.kept_months.specs.Kept.{keep_if, take_asked}
 use Rattle.kept_months.proofs.Laws.{taken}
 use Rattle.kept_demand3.specs.Acts.{Act, call, back, Field, after_call, after_back, after_act, run_acts, backs, calls}
@@ -29,6 +28,8 @@ use Rattle.kept_demand3.specs.Demand.{Lent}
 use Rattle.kept_demand3.specs.TakingBack.{back_from, TakingBack}
 use Rattle.kept_demand3.proofs.Aside.{outcome_aside, same_outcome}
 use Rattle.kept_demand3.proofs.Remains.{alone, Holds, holds-none, holds_moved, holds_taken}
+use Rattle.month_call.specs.Month.{Answer}
+use Rattle.kept_months.specs.Kept.{TakeAnswer}
 
 -- ---- calls that are all accepted
 
@@ -43,14 +44,14 @@ accepted-most (c ∷ later) t = omega (arith, at_most_one_lem (accepts t c), acc
 
 first_found : (check : Check) (t : State) (e : Entries) (later : List Call)
     → cond (is_done (outcome_of check t e).answer) 1 0 + accepted_calls (outcome_of check t e).state later ≡ suc (length later)
-    → (check ≡ Pass) × (accepted_calls (outcome_of check t e).state later ≡ length later)
+    → (check ≡ Ok tt) × (accepted_calls (outcome_of check t e).state later ≡ length later)
 unfolding outcome_of
-first_found Pass t e later h = (refl, omega arith)
-first_found (Refuse refusal) t e later h = absurd (omega (arith, accepted-most later t))
+first_found (Ok _) t e later h = (refl, omega arith)
+first_found (Err refusal) t e later h = absurd (omega (arith, accepted-most later t))
 
 -- The first of them is, and so are the others.
 first-accepted : (t : State) (c : Call) (later : List Call) → accepted_calls t (c ∷ later) ≡ suc (length later)
-    → (month_check t c.number c.entries ≡ Pass) × (accepted_calls (state_after t c) later ≡ length later)
+    → (month_check t c.number c.entries ≡ Ok tt) × (accepted_calls (state_after t c) later ≡ length later)
 unfolding accepted_calls month_call
 first-accepted t c later h = first_found (month_check t c.number c.entries) t c.entries later h
 
@@ -74,24 +75,24 @@ around a n f =
 
 -- ---- one month, and taking it back
 
-kept-passes : (s : State) → 0 < s.kept → s.kept ≤ kept_limit → first_of (take_asked s) ≡ Pass
+kept-passes : (s : State) → 0 < s.kept → s.kept ≤ kept_limit → first_of (take_asked s) ≡ Ok tt
 unfolding take_asked first_of
 kept-passes s some few = rw (ne_eqb s.kept 0 (λ h. omega arith), le-ltb kept_limit s.kept few)
 
 module _ {start : State} {f : Field} {n : ℕ} {earlier : List Call} where
-  holds-call : (c : Call) → month_check f.state c.number c.entries ≡ Pass → n < kept_limit → Holds start f n earlier
+  holds-call : (c : Call) → month_check f.state c.number c.entries ≡ Ok tt → n < kept_limit → Holds start f n earlier
       → Holds start (after_call f c) (suc n) (c ∷ earlier)
   unfolding outcome_of
   holds-call c passed below h =
       let counts : one_more_kept n ≡ suc n = one_more n below ∙ omega arith in
       subst
-      (λ (o : Outcome). Holds start (record { state = o.state; memory = keep_if o.answer f.state f.memory }) (suc n) (c ∷ earlier))
+      (λ (o : Outcome Answer State). Holds start (record { state = o.state; memory = keep_if o.answer f.state f.memory }) (suc n) (c ∷ earlier))
       (sym (accepted_runs f.state c.number c.entries passed))
       (rw counts at (holds_moved h c passed))
 
   holds-back : (c : Call) → Holds start f (suc n) (c ∷ earlier) → Holds start (after_back f) n earlier
   holds-back c h =
-      subst (λ (o : TakeOutcome). Holds start (record { state = o.state; memory = f.memory }) n earlier)
+      subst (λ (o : Outcome TakeAnswer State). Holds start (record { state = o.state; memory = f.memory }) n earlier)
       (taken f.state f.memory (kept-passes f.state (omega (arith, h.least)) h.few))
       (holds_taken n h)
 
@@ -137,12 +138,12 @@ module _ (f : Field) (lent : Lent f) (c d : Call) (one : accepted_calls f.state 
 
   afresh_state : kept_aside (run_acts f (call c ∷ back ∷ call d ∷ [])).state ≡ kept_aside (run_acts f (call d ∷ [])).state
   unfolding run_acts
-  afresh_state = ap (λ (o : Outcome). o.state) again
+  afresh_state = ap (λ (o : Outcome Answer State). o.state) again
 
 pub taking_back : TakingBack
 taking_back =
     record {
       restored = restored;
-      afresh = λ f lent c d one. ap (λ (o : Outcome). o.answer) (again f lent c d one);
+      afresh = λ f lent c d one. ap (λ (o : Outcome Answer State). o.answer) (again f lent c d one);
       afresh_state = afresh_state;
     }

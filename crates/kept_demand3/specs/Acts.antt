@@ -1,15 +1,13 @@
 -- "Demand 3's list, begun with none kept and with months taken back in it" (change 2026-02 of
 -- document 02): single month calls and takings-back in any order, each given the field that the one
 -- before it left, after a refusal too.
-use Rattle.std.specs.Prelude.{Bool, true, false, cond, List, [], ◌∷◌, reverse, ℕ, zero, suc, drop}
+use Rattle.std.specs.Prelude.{Ok, Err, Bool, true, false, cond, List, [], ◌∷◌, reverse, ℕ, zero, suc, drop}
 use Rattle.month_state.specs.declared.Soil.{Soil}
 use Rattle.month_state.specs.declared.State.{State}
 use Rattle.month_state.specs.State.{new_state}
 use Rattle.month_call.specs.Month.{month_call}
 use Rattle.month_demand3.specs.Calls.{Call, state_after, accepts}
-use Rattle.kept_months.specs.declared.TakeAnswer.{TakeAnswer}
-use Rattle.kept_months.specs.declared.TakeAnswer.TheVariants as takings
-use Rattle.kept_months.specs.Kept.{keep_if, take_back}
+use Rattle.kept_months.specs.Kept.{TakeAnswer, keep_if, take_back}
 
 -- A single month call, or the latest month taken back.
 pub data Act : Type 0 where
@@ -51,8 +49,8 @@ run_acts f (act ∷ acts) = run_acts (after_act f act) acts
 
 -- Whether the latest month is taken back.
 abbrev pub is_taken : TakeAnswer → Bool
-is_taken takings.Taken = true
-is_taken (takings.Refused refusal) = false
+is_taken (Ok _) = true
+is_taken (Err refusal) = false
 
 abbrev pub takes : Field → Bool
 takes f = is_taken (take_back f.state f.memory).answer

@@ -1,13 +1,12 @@
 -- Demand 3 with months taken back: one claim about every list of single month calls and
 -- takings-back from the new state of every soil that 4 to 7 accept, with none kept.
-use Rattle.std.specs.Prelude.{◌≡◌, List, ℕ, ◌+◌, ◌*◌, length}
+use Rattle.std.specs.Prelude.{Ok, ◌≡◌, List, ℕ, ◌+◌, ◌*◌, length}
 use Rattle.number_exact.specs.Fraction.{◌≼◌, whole}
 use Rattle.step_pools.specs.Pools.{total}
 use Rattle.month_state.specs.declared.Soil.{Soil}
 use Rattle.month_state.specs.declared.State.{State}
 use Rattle.month_state.specs.State.{new_state, kept_aside}
 use Rattle.month_layouts.specs.Layouts.{memory_width}
-use Rattle.month_refusals.specs.declared.Check.TheVariants.{Pass}
 use Rattle.month_refusals.specs.Refusals.{soil_check}
 use Rattle.month_demand3.specs.Calls.{Call, run_calls, accepted_calls, added_carbon}
 use Rattle.month_demand3.specs.Recurrence.{Exact, Leads, exact_start, feed}
@@ -62,7 +61,7 @@ pub record CallsAlone (s : Soil) (memory : List ℕ) (month_calls : List Call) :
 -- at first is no matter.
 pub record FieldDemand3 : Type 0 where
   pub holds :
-      (s : Soil) → length s.pools ≡ 4 → soil_check s ≡ Pass → (memory : List ℕ)
+      (s : Soil) → length s.pools ≡ 4 → soil_check s ≡ Ok tt → (memory : List ℕ)
       → length memory ≡ memory_width → (acts : List Act) → FieldDemand3For s memory acts
   -- The end is such from any field with none kept, as after a spin-up.
   pub begun_with_none :

@@ -1,6 +1,7 @@
 -- Laws of keeping and taking back that their functions rest on: where the latest state lies, what is taken back, and which refusal is
 -- given.
 -- Assumes nothing.
+use Rattle.std.specs.Prelude.{Ok, Err}
 use mathlib.Core.Path.{◌≡◌, refl, sym, ◌∙◌, ap}
 use mathlib.Core.Bool.{true}
 use mathlib.Core.List.{List}
@@ -14,14 +15,12 @@ use Rattle.month_state.specs.declared.State.{State}
 use Rattle.month_state.specs.State.{kept_limit}
 use Rattle.month_layouts.specs.Layouts.{kept_width, memory_width, state_from, kept_numbers}
 use Rattle.month_layouts.proofs.Layouts.{part_put, part_read, kept_of_length}
-use Rattle.month_refusals.specs.declared.Check.{Check}
-use Rattle.month_refusals.specs.declared.Check.TheVariants.{Pass, Refuse}
+use Rattle.month_refusals.specs.Asked.{Check}
 use Rattle.month_refusals.specs.declared.Refusal.{Refusal}
-use Rattle.month_refusals.specs.Asked.{first_of, checking_order, part_of, found, at, told, number_and_place, Exactly}
+use Rattle.month_refusals.specs.Asked.{Asked, first_of, Finds, checking_order, part_of, found, at, told, number_and_place, Exactly}
 use Rattle.month_refusals.proofs.First.{passes-one, found_at, found-at, exactly}
-use Rattle.kept_months.specs.declared.TakeAnswer.TheVariants as takings
-use Rattle.kept_months.specs.declared.TakeOutcome.{TakeOutcome}
-use Rattle.kept_months.specs.Kept.{place_of, keep, latest, take_asked, take_checked, take_back, take_found, take_told}
+use Rattle.kept_months.specs.Kept.{place_of, keep, latest, take_asked, take_back}
+use Rattle.month_refusals.specs.Asked.{answer_found, answer_told}
 
 -- The remainder may be taken before 23 is added.
 place-before : (months : ℕ) → (months % kept_limit + 23) % kept_limit ≡ place_of (months + 23)
@@ -34,17 +33,18 @@ keep-length s memory = length-sets memory (kept_width * place_of s.months) (kept
 
 -- The part of the memory that begins at a place.
 abbrev part_at : List ℕ → ℕ → List ℕ
-part_at memory place = take (length memory - kept_width * place) (drop (kept_width * place) memory)
+part_at memory place = take (memory_width - kept_width * place) (drop (kept_width * place) memory)
 
-module _ (s : State) (memory : List ℕ) where
+module _ (s : State) (memory : List ℕ) (all : length memory ≡ memory_width) where
   -- Put in the part that begins at its place, a state is kept, ..
   pub kept_in_part :
-      {part : List ℕ} → length memory ≡ memory_width → part ≡ sets (part_at memory (place_of s.months)) 0 (kept_numbers s)
-      → put_mid (kept_width * place_of s.months) (length memory - kept_width * place_of s.months) memory part ≡ keep s memory
+      {part : List ℕ} → part ≡ sets (part_at memory (place_of s.months)) 0 (kept_numbers s)
+      → put_mid (kept_width * place_of s.months) (memory_width - kept_width * place_of s.months) memory part ≡ keep s memory
   unfolding keep
-  kept_in_part long is =
+  kept_in_part is =
       let from = kept_width * place_of s.months in
-      ap (put_mid from (length memory - from) memory) is
+      ap (put_mid from (memory_width - from) memory) is
+      ∙ ap (λ (n : ℕ). put_mid from (n - from) memory (sets (take (n - from) (drop from memory)) 0 (kept_numbers s))) (sym all)
       ∙ part_put memory from (kept_numbers s) (omega (arith, kept_of_length s))
 
   -- .. and the latest is read from the part that begins at its.
@@ -53,11 +53,14 @@ module _ (s : State) (memory : List ℕ) where
       → before ≡ latest s memory
   unfolding latest
   latest_in_part is =
-      is ∙ part_read memory (kept_width * ((s.months % kept_limit + 23) % kept_limit)) (s.kept - 1)
+      let place = (s.months % kept_limit + 23) % kept_limit in
+      is
+      ∙ ap (λ (n : ℕ). state_from (take (n - kept_width * place) (drop (kept_width * place) memory)) 0 (s.kept - 1)) (sym all)
+      ∙ part_read memory (kept_width * place) (s.kept - 1)
       ∙ ap (λ (place : ℕ). state_from memory (kept_width * place) (s.kept - 1)) (place-before s.months)
 
 -- Where taking back is not refused, there is a kept state and at most 24.
-pub some_kept : (s : State) → first_of (take_asked s) ≡ Pass → (0 < s.kept) × (s.kept ≤ kept_limit)
+pub some_kept : (s : State) → first_of (take_asked s) ≡ Ok tt → (0 < s.kept) × (s.kept ≤ kept_limit)
 unfolding take_asked
 some_kept s h =
     let some = passes-one _ _ h in
@@ -68,31 +71,42 @@ some_kept s h =
 -- ---- the outcome
 
 module _ (s : State) (memory : List ℕ) where
-  pub taken : first_of (take_asked s) ≡ Pass → record { answer = takings.Taken; state = latest s memory } ≡ take_back s memory
+  pub taken : first_of (take_asked s) ≡ Ok tt → record { answer = Ok tt; state = latest s memory } ≡ take_back s memory
   unfolding take_back
   taken h = rw h
 
-  pub not_taken : {refusal : Refusal} → first_of (take_asked s) ≡ Refuse refusal
-      → record { answer = takings.Refused refusal; state = s } ≡ take_back s memory
+  pub not_taken : {refusal : Refusal} → first_of (take_asked s) ≡ Err refusal
+      → record { answer = Err refusal; state = s } ≡ take_back s memory
   unfolding take_back
   not_taken h = rw h
 
-  checked_found : (check : Check) → take_found (take_checked check s memory).answer ≡ found_at 0 check
-  checked_found Pass = refl
-  checked_found (Refuse refusal) = refl
+-- By what the check finds: a kept state is taken back, ..
+module _ (s : State) {check : Check} (finds : Finds (take_asked s) check) where
+  pub kept_left : check ≡ Ok tt → 0 < s.kept
+  kept_left passes = (some_kept s (sym finds.first ∙ passes)).0
 
-  take_found_lem : take_found (take_back s memory).answer ≡ found (at 0 (take_asked s))
-  unfolding take_back
-  take_found_lem = checked_found (first_of (take_asked s)) ∙ sym (found-at 0 (take_asked s))
+  pub taken_back : (memory : List ℕ) → check ≡ Ok tt → record { answer = check; state = latest s memory } ≡ take_back s memory
+  taken_back memory passes = rw passes (taken s memory (sym finds.first ∙ passes))
 
-  -- Its number and place are those of the first that applies, and each refusal is given exactly there.
-  abbrev pub Promised : TakeOutcome → Type 0
-  Promised r =
-      (r ≡ take_back s memory)
-      × ((take_told r.answer ≡ told (at 0 (take_asked s))) × Exactly (at 0 (take_asked s)) (take_found r.answer))
+  pub none_taken : (memory : List ℕ) {refusal : Refusal} → check ≡ Err refusal → record { answer = check; state = s } ≡ take_back s memory
+  none_taken memory refuses = rw refuses (not_taken s memory (sym finds.first ∙ refuses))
 
-  pub promised : {r : TakeOutcome} → r ≡ take_back s memory → Promised r
-  promised is = (is, (rw is (ap number_and_place take_found_lem), rw is (exactly take_found_lem)))
+-- .. and a refusal is the first that applies, given exactly there.
+check_found : {asked : List Asked} {check : Check} → Finds asked check → answer_found check ≡ found (at 0 asked)
+check_found {asked} {check} finds = by_cases check ∙ ap (found_at 0) finds.first ∙ sym (found-at 0 asked)
+  where
+    by_cases : (check : Check) → answer_found check ≡ found_at 0 check
+    by_cases (Ok _) = refl
+    by_cases (Err refusal) = refl
+
+pub check_told : {asked : List Asked} {check : Check} → Finds asked check → answer_told check ≡ told (at 0 asked)
+check_told finds = ap number_and_place (check_found finds)
+
+pub check_exactly : {asked : List Asked} {check : Check} → Finds asked check → Exactly (at 0 asked) (answer_found check)
+check_exactly finds = exactly (check_found finds)
+
+-- What taking back rests on.
+pub ruleset taking = (kept_left, taken_back, none_taken, check_told, check_exactly)
 
 -- What it asks is part of the papers' list, in its order.
 pub take_in_order : (s : State) → part_of checking_order (take_asked s) ≡ true

@@ -1,12 +1,12 @@
 -- What rothc_take_back returns and leaves in lent memory: a field, which is the current state and
 -- after it the memory of the kept ones.
+use Rattle.std.specs.Prelude.{Ok, Err}
 use Rattle.std.specs.Prelude.{cond, List, ℕ}
 use Rattle.month_state.specs.declared.State.{State}
 use Rattle.month_layouts.specs.Layouts.{field_width, state_of, memory_of, field_numbers}
 use Rattle.month_refusals.specs.Asked.{refusal_number}
-use Rattle.kept_months.specs.declared.TakeAnswer.{TakeAnswer}
-use Rattle.kept_months.specs.declared.TakeAnswer.TheVariants as takings
-use Rattle.kept_months.specs.declared.TakeOutcome.{TakeOutcome}
+use Rattle.kept_months.specs.Kept.{TakeAnswer}
+use Rattle.month_state.specs.declared.Outcome.{Outcome}
 use Rattle.kept_months.specs.Kept.{take_back}
 use Rattle.library_month.specs.Calls.{shape, has}
 
@@ -17,12 +17,12 @@ pub record BackLeft : Type 0 where
 -- The state before the latest month, with the memory of kept ones as it was; or the refusal's
 -- number and everything as it was.
 abbrev pub after_taking : TakeAnswer → State → List ℕ → BackLeft
-after_taking takings.Taken before state =
+after_taking (Ok _) before state =
     record { number = 0; state = field_numbers before (memory_of state) }
-after_taking (takings.Refused refusal) before state =
+after_taking (Err refusal) before state =
     record { number = refusal_number refusal; state = state }
 
-abbrev pub of_taking : TakeOutcome → List ℕ → BackLeft
+abbrev pub of_taking : Outcome TakeAnswer State → List ℕ → BackLeft
 of_taking outcome state = after_taking outcome.answer outcome.state state
 
 unfoldable pub rothc_take_back : List ℕ → BackLeft

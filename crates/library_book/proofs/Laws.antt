@@ -12,8 +12,9 @@ use Rattle.month_refusals.specs.declared.Refusal.TheVariants.{Room}
 use Rattle.month_refusals.specs.Asked.{refusal_number}
 use Rattle.book_digits.specs.Digits.{overwritten}
 use Rattle.book_digits.proofs.Writing.{length-overwritten, overwritten_is}
-use Rattle.book_run.specs.declared.BookAnswer.{BookAnswer}
-use Rattle.book_run.specs.Book.{book_of, book_told}
+use Rattle.book_run.specs.Book.{BookAnswer}
+use Rattle.book_run.specs.Book.{book_of}
+use Rattle.month_refusals.specs.Asked.{placed_told}
 use Rattle.book_report.specs.Report.{no_rows, output_of, report_of}
 use Rattle.library_book.specs.Calls.{rothc_book}
 
@@ -47,7 +48,7 @@ module _
 
     pub book_written :
         {left text : List ℕ} {telling : NumberAndPlace} → n ≤ length out → left ≡ overwritten out 0 text → text ≡ output_of answer rows
-        → telling ≡ book_told answer → record { number = telling.number; out = left; size = n } ≡ rothc_book book out
+        → telling ≡ placed_told answer → record { number = telling.number; out = left; size = n } ≡ rothc_book book out
     unfolding rothc_book
     book_written room wrote is told =
         let same : n ≡ length (report_of book) = size ∙ ap length whole-report in

@@ -3,7 +3,8 @@ use Rattle.std.specs.Prelude.{cond, List, ℕ, ltb, length}
 use Rattle.month_refusals.specs.declared.Refusal.TheVariants.{Room}
 use Rattle.month_refusals.specs.Asked.{refusal_number}
 use Rattle.book_digits.specs.Digits.{overwritten}
-use Rattle.book_run.specs.Book.{book_of, book_told}
+use Rattle.book_run.specs.Book.{book_of}
+use Rattle.month_refusals.specs.Asked.{placed_told}
 use Rattle.book_report.specs.Report.{no_rows, report_of}
 
 pub record BookLeft : Type 0 where
@@ -19,7 +20,7 @@ rothc_book book out =
     cond (ltb (length out) (length (report_of book)))
     (record { number = refusal_number Room; out = out; size = length (report_of book) })
     (record {
-      number = (book_told (book_of book no_rows).answer).number;
+      number = (placed_told (book_of book no_rows).answer).number;
       out = overwritten out 0 (report_of book);
       size = length (report_of book);
     })

@@ -1,14 +1,17 @@
 -- What rothc_list and rothc_spin_up return and leave in lent memory. Memory that a call is lent to
 -- read stays as it was. A state is lent as a field: the current one, and after it the memory of the
 -- kept ones.
+use Rattle.std.specs.Prelude.{Ok, Err}
 use Rattle.std.specs.Prelude.{cond, ◌&&◌, List, [], ◌∷◌, ℕ, ℤ}
+use Rattle.month_state.specs.declared.State.{State}
 use Rattle.month_layouts.specs.Layouts.{field_width, state_of, memory_of, field_numbers}
 use Rattle.list_rows.specs.Rows.{land_rows}
-use Rattle.list_run.specs.Run.{Left, rows_written, kept_months, run, list_told}
-use Rattle.spin_up.specs.declared.SpinAnswer.{SpinAnswer}
-use Rattle.spin_up.specs.declared.SpinAnswer.TheVariants.{Settled, Unsettled, Refused}
-use Rattle.spin_up.specs.declared.SpinOutcome.{SpinOutcome}
-use Rattle.spin_up.specs.SpinUp.{spin_up, spin_told}
+use Rattle.list_run.specs.Run.{Left, rows_written, kept_months, run}
+use Rattle.month_refusals.specs.Asked.{placed_told}
+use Rattle.spin_up.specs.SpinUp.{SpinAnswer}
+use Rattle.spin_up.specs.declared.Years.TheVariants.{Settled, Unsettled}
+use Rattle.month_state.specs.declared.Outcome.{Outcome}
+use Rattle.spin_up.specs.SpinUp.{spin_up}
 use Rattle.library_month.specs.Calls.{shape, has}
 
 -- ---- rothc_list
@@ -24,10 +27,10 @@ pub record ListLeft : Type 0 where
 abbrev pub of_list : Left → List ℕ → ListLeft
 of_list left memory =
     record {
-      number = (list_told left.outcome.answer).number;
+      number = (placed_told left.outcome.answer).number;
       state = field_numbers left.outcome.state memory;
       rows = left.output;
-      place = (list_told left.outcome.answer).place;
+      place = (placed_told left.outcome.answer).place;
     }
 
 -- Each month that ran keeps the state before it.
@@ -59,16 +62,16 @@ pub record SpinLeft : Type 0 where
 
 -- 1 for settled or 0, and the years run. Where it is refused, 0 and the place.
 abbrev pub spin_result : SpinAnswer → List ℕ
-spin_result (Settled years) = 1 ∷ years ∷ []
-spin_result (Unsettled years) = 0 ∷ years ∷ []
-spin_result (Refused refusal place) = 0 ∷ place ∷ []
+spin_result (Ok (Settled years)) = 1 ∷ years ∷ []
+spin_result (Ok (Unsettled years)) = 0 ∷ years ∷ []
+spin_result (Err e) = 0 ∷ e.place ∷ []
 
 -- The number of the answer, and the state reached, or where it is refused the starting one. The
 -- memory of kept ones stays.
-abbrev pub of_spin : SpinOutcome → List ℕ → SpinLeft
+abbrev pub of_spin : Outcome SpinAnswer State → List ℕ → SpinLeft
 of_spin outcome memory =
     record {
-      number = (spin_told outcome.answer).number;
+      number = (placed_told outcome.answer).number;
       state = field_numbers outcome.state memory;
       result = spin_result outcome.answer;
     }

@@ -3,37 +3,21 @@
 // fixed layout has another length.
 #![tactic(auto)]
 
-ghost use Rattle.std.specs.Prelude.{◌≡◌, length};
-ghost use Rattle.list_run.specs.Run.{list_told};
-ghost use Rattle.spin_up.specs.SpinUp.{spin_told};
-ghost use Rattle.library_list.specs.Calls.{rothc_list, result_width, spin_result, rothc_spin_up};
+ghost use Rattle.std.specs.Prelude.{◌≡◌};
+ghost use Rattle.library_list.specs.Calls.{rothc_list, spin_result, rothc_spin_up};
 
 use library_month::SHAPE;
-use list_run::{ListAnswer, run};
-use month_layouts::{FIELD_WIDTH, STATE_WIDTH, put_state, state_of};
-use month_refusals::{NumberAndPlace, refusal_number};
-use spin_up::SpinAnswer;
+use list_run::run;
+use month_layouts::{FIELD_WIDTH, MEMORY_WIDTH, STATE_WIDTH, put_state, state_of};
+use month_refusals::placed_told;
+use spin_up::{SpinAnswer, Years};
 
 // How many numbers a result has.
 const RESULT_WIDTH: usize = 2;
 
-// The papers' number and place of a list's answer.
-fn list_told(answer: ListAnswer) -> NumberAndPlace
-    ensures { result ≡ list_told answer }
-{
-    match answer {
-        ListAnswer::Finished => NumberAndPlace {
-            number: 0,
-            place: 0,
-        },
-        ListAnswer::Refused(refusal, place) => NumberAndPlace {
-            number: refusal_number(refusal),
-            place,
-        },
-    }
-}
-
-// A list of months. The states before them are kept in the memory after the current one.
+// A list of months. The states before them are kept in the memory after the current one. C takes
+// the place of a refusal through a pointer.
+#[tactic(auto, using(library_month::proofs::Laws::first_read, library_month::proofs::Laws::first_put), unfolding(crate::specs::Calls::rothc_list))]
 pub fn list(
     state: &mut [u64],
     weather: &[i64],
@@ -49,78 +33,43 @@ pub fn list(
     }
         ≡ rothc_list state.old weather.now land.now rows.old place.old }
 {
-    if state.len() != FIELD_WIDTH {
+    // A field is the current state's numbers and the memory, and nothing after them.
+    let Some((current, rest)) = state.split_first_chunk_mut::<STATE_WIDTH>() else {
         return SHAPE;
-    }
-    let given = state_of(state);
-    let from = STATE_WIDTH;
-    let outcome = run(given, weather, land, rows, &mut state[from..]);
-    let answer = outcome.answer;
-    let after = outcome.state;
-    put_state(state, after);
-    let told = list_told(answer);
+    };
+    let Some(memory) = rest.as_mut_array::<MEMORY_WIDTH>() else {
+        return SHAPE;
+    };
+    let outcome = run(state_of(current), weather, land, rows, memory);
+    put_state(current, outcome.state);
+    let told = placed_told(outcome.answer);
     *place = told.place;
     told.number
 }
 
-// The papers' number and place of a spin-up's answer.
-fn spin_told(answer: SpinAnswer) -> NumberAndPlace
-    ensures { result ≡ spin_told answer }
+// Whether a spin-up is settled, and its years or its place, as C takes them: two numbers.
+fn spin_result(answer: SpinAnswer) -> [u64; RESULT_WIDTH]
+    ensures { result ≡ spin_result answer }
 {
     match answer {
-        SpinAnswer::Settled(_) => NumberAndPlace {
-            number: 0,
-            place: 0,
-        },
-        SpinAnswer::Unsettled(_) => NumberAndPlace {
-            number: 0,
-            place: 0,
-        },
-        SpinAnswer::Refused(refusal, place) => NumberAndPlace {
-            number: refusal_number(refusal),
-            place,
-        },
-    }
-}
-
-// Whether a spin-up is settled, and its years or its place.
-fn put_result(res: &mut [u64], answer: SpinAnswer)
-    requires { length res.old ≡ result_width }
-    ensures { res.new ≡ spin_result answer }
-{
-    match answer {
-        SpinAnswer::Settled(years) => {
-            res[0] = 1;
-            res[1] = years;
-        }
-        SpinAnswer::Unsettled(years) => {
-            res[0] = 0;
-            res[1] = years;
-        }
-        SpinAnswer::Refused(_, place) => {
-            res[0] = 0;
-            res[1] = place;
-        }
+        Ok(Years::Settled(years)) => [1, years],
+        Ok(Years::Unsettled(years)) => [0, years],
+        Err(e) => [0, e.place],
     }
 }
 
 // A spin-up of at most so many years. It ends with none kept unless it is refused, and leaves the
 // memory of the kept ones as it was.
+#[tactic(auto, using(month_layouts::proofs::Layouts::field_put), unfolding(crate::specs::Calls::rothc_spin_up))]
 pub fn spin_up(state: &mut [u64], weather: &[i64], land: &[i64], years: u64, res: &mut [u64]) -> u64
     ensures { record { number = result; state = state.new; result = res.new }
         ≡ rothc_spin_up state.old weather.now land.now years res.old }
 {
-    if state.len() != FIELD_WIDTH {
-        return SHAPE;
-    }
-    if res.len() != RESULT_WIDTH {
+    if state.len() != FIELD_WIDTH || res.len() != RESULT_WIDTH {
         return SHAPE;
     }
     let outcome = spin_up::spin_up(state_of(state), weather, land, years);
-    let answer = outcome.answer;
-    let reached = outcome.state;
-    put_state(state, reached);
-    put_result(res, answer);
-    let told = spin_told(answer);
-    told.number
+    put_state(state, outcome.state);
+    res.copy_from_slice(&spin_result(outcome.answer));
+    placed_told(outcome.answer).number
 }

@@ -1,6 +1,7 @@
 -- What rothc_start and rothc_month return and leave in lent memory. Memory that a call is lent to
 -- read stays as it was. A state is lent as a field: the current one, and after it the memory of the
 -- kept ones.
+use Rattle.std.specs.Prelude.{Ok, Err}
 use Rattle.std.specs.Prelude.{Bool, cond, ◌&&◌, List, ℕ, eqb, ℤ, length}
 use Rattle.month_state.specs.declared.Soil.{Soil}
 use Rattle.month_state.specs.declared.State.{State}
@@ -9,13 +10,11 @@ use Rattle.month_layouts.specs.Layouts.{soil_width, field_width, soil_of, state_
 use Rattle.list_rows.specs.Rows.{entries_width, row_width, entries_of}
 use Rattle.month_layouts.specs.Layouts.{field_numbers}
 use Rattle.list_rows.specs.Rows.{row_numbers}
-use Rattle.month_refusals.specs.declared.Check.{Check}
-use Rattle.month_refusals.specs.declared.Check.TheVariants.{Pass, Refuse}
+use Rattle.month_refusals.specs.Asked.{Check}
 use Rattle.month_refusals.specs.Asked.{refusal_number}
 use Rattle.month_refusals.specs.Refusals.{soil_check}
-use Rattle.month_call.specs.declared.Answer.{Answer}
-use Rattle.month_call.specs.declared.Answer.TheVariants.{Done, Refused}
-use Rattle.month_call.specs.declared.Outcome.{Outcome}
+use Rattle.month_call.specs.Month.{Answer}
+use Rattle.month_state.specs.declared.Outcome.{Outcome}
 use Rattle.month_call.specs.Month.{month_call}
 use Rattle.kept_months.specs.Kept.{keep_if}
 
@@ -37,9 +36,9 @@ pub record StartLeft : Type 0 where
 -- 4 to 7: the new state, which has none kept, with the memory of kept ones as it was; or the
 -- refusal's number and everything as it was.
 abbrev pub after_check : Check → Soil → List ℕ → StartLeft
-after_check Pass soil state =
+after_check (Ok _) soil state =
     record { number = 0; state = field_numbers (new_state soil) (memory_of state) }
-after_check (Refuse refusal) soil state = record { number = refusal_number refusal; state = state }
+after_check (Err refusal) soil state = record { number = refusal_number refusal; state = state }
 
 unfoldable pub rothc_start : List ℕ → List ℕ → StartLeft
 rothc_start soil state =
@@ -57,16 +56,16 @@ pub record MonthLeft : Type 0 where
 -- An accepted month keeps the state before it, moves the state on and writes its row. A refused one
 -- gives the refusal's number and leaves everything as it was.
 abbrev pub after_month : Answer → State → List ℕ → List ℕ → MonthLeft
-after_month (Done done) next state row =
+after_month (Ok done) next state row =
     record {
       number = 0;
-      state = field_numbers next (keep_if (Done done) (state_of state) (memory_of state));
+      state = field_numbers next (keep_if (Ok done) (state_of state) (memory_of state));
       row = row_numbers done;
     }
-after_month (Refused refusal) next state row =
+after_month (Err refusal) next state row =
     record { number = refusal_number refusal; state = state; row = row }
 
-abbrev pub of_month : Outcome → List ℕ → List ℕ → MonthLeft
+abbrev pub of_month : Outcome Answer State → List ℕ → List ℕ → MonthLeft
 of_month outcome state row = after_month outcome.answer outcome.state state row
 
 unfoldable pub rothc_month : List ℕ → ℕ → List ℤ → List ℕ → MonthLeft

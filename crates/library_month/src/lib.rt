@@ -8,63 +8,60 @@ ghost use Rattle.library_month.specs.Calls.{rothc_start, rothc_month};
 
 use kept_demand3::call;
 use list_rows::{ENTRIES_WIDTH, ROW_WIDTH, entries_of, put_row};
-use month_call::Answer;
-use month_layouts::{FIELD_WIDTH, SOIL_WIDTH, STATE_WIDTH, put_state, soil_of, state_of};
-use month_refusals::{Check, check_soil, refusal_number};
+use month_layouts::{
+    FIELD_WIDTH, MEMORY_WIDTH, SOIL_WIDTH, STATE_WIDTH, put_state, soil_of, state_of,
+};
+use month_refusals::check_soil;
 use month_state::State;
 
-// What is returned for a length that no layout has. It is none of the papers' numbers.
+// What is returned for a length that no layout has, since C takes a number and no `Result`. It is
+// none of the papers'.
 pub const SHAPE: u64 = 100;
 
 // The new state of a soil that none of 4 to 7 refuses.
-#[tactic(auto, using(crate::proofs::Laws::start_soil, crate::proofs::Laws::start_state))]
+#[tactic(auto, using(month_layouts::proofs::Layouts::field_put), unfolding(crate::specs::Calls::rothc_start))]
 pub fn start(soil: &[u64], state: &mut [u64]) -> u64
     ensures { record { number = result; state = state.new }
         ≡ rothc_start soil.now state.old }
 {
-    if soil.len() != SOIL_WIDTH {
-        return SHAPE;
-    }
-    if state.len() != FIELD_WIDTH {
+    if soil.len() != SOIL_WIDTH || state.len() != FIELD_WIDTH {
         return SHAPE;
     }
     let given = soil_of(soil);
     match check_soil(given) {
-        Check::Pass => {
+        Ok(()) => {
             put_state(state, State::new(given));
             0
         }
-        Check::Refuse(refusal) => refusal_number(refusal),
+        Err(refusal) => refusal.number(),
     }
 }
 
 // The single month call, the one that has demand 3 in its promise. The state before an accepted
 // month is kept in the memory after the current one.
-#[tactic(auto, unfolding(crate::specs::Calls::rothc_month))]
+#[tactic(auto, using(crate::proofs::Laws::first_read, crate::proofs::Laws::first_put, list_rows::proofs::Layouts::row_stored), unfolding(crate::specs::Calls::rothc_month))]
 pub fn month(state: &mut [u64], number: u64, entries: &[i64], row: &mut [u64]) -> u64
     ensures { record { number = result; state = state.new; row = row.new }
         ≡ rothc_month state.old number entries.now row.old }
 {
-    if state.len() != FIELD_WIDTH {
+    if entries.len() != ENTRIES_WIDTH || row.len() != ROW_WIDTH {
         return SHAPE;
     }
-    if entries.len() != ENTRIES_WIDTH {
+    // A field is the current state's numbers and the memory, and nothing after them.
+    let Some((current, rest)) = state.split_first_chunk_mut::<STATE_WIDTH>() else {
         return SHAPE;
-    }
-    if row.len() != ROW_WIDTH {
+    };
+    let Some(memory) = rest.as_mut_array::<MEMORY_WIDTH>() else {
         return SHAPE;
-    }
-    let given = state_of(state);
-    let from = STATE_WIDTH;
-    let outcome = call(given, number, entries_of(entries), &mut state[from..]);
-    let answer = outcome.answer;
-    let next = outcome.state;
-    match answer {
-        Answer::Done(done) => {
-            put_state(state, next);
+    };
+    let given = state_of(current);
+    let outcome = call(given, number, entries_of(entries), memory);
+    match outcome.answer {
+        Ok(done) => {
+            put_state(current, outcome.state);
             put_row(row, 0, done);
             0
         }
-        Answer::Refused(refusal) => refusal_number(refusal),
+        Err(refusal) => refusal.number(),
     }
 }

@@ -1,5 +1,6 @@
 -- What rothc_radiocarbon and rothc_age_survival return and leave in lent memory. A state is lent as
 -- a field: the current one, and after it the memory of the kept ones. It is read and stays.
+use Rattle.std.specs.Prelude.{Ok, Err}
 use Rattle.std.specs.Prelude.{cond, ◌&&◌, List, [], ◌∷◌, ℕ, leb, eqb, ℤ, pos}
 use Rattle.month_layouts.specs.Layouts.{field_width, state_of}
 use Rattle.step_survival.specs.Ages.{age_limit, age_survival}
@@ -7,9 +8,9 @@ use Rattle.radiocarbon_age.specs.declared.Age.{Age}
 use Rattle.radiocarbon_age.specs.declared.Age.TheVariants.{Years, Older, Newer}
 use Rattle.radiocarbon_report.specs.declared.Subject.{Subject}
 use Rattle.radiocarbon_report.specs.declared.Subject.TheVariants.{Dpm, Rpm, Bio, Hum, Iom, AllFive}
-use Rattle.radiocarbon_report.specs.declared.ReportAnswer.{ReportAnswer}
-use Rattle.radiocarbon_report.specs.declared.ReportAnswer.TheVariants.{Given, Refused}
-use Rattle.radiocarbon_report.specs.Report.{report, report_told}
+use Rattle.radiocarbon_report.specs.Report.{ReportAnswer}
+use Rattle.radiocarbon_report.specs.Report.{report}
+use Rattle.month_refusals.specs.Asked.{answer_told}
 use Rattle.library_month.specs.Calls.{shape, has}
 use Rattle.library_survival.specs.Calls.{no_survival}
 
@@ -42,12 +43,12 @@ report_numbers delta Newer = delta ∷ pos 2 ∷ pos 0 ∷ []
 
 -- A refusal leaves the lent report.
 abbrev pub of_report : ReportAnswer → List ℤ → List ℤ
-of_report (Given delta age) lent = report_numbers delta age
-of_report (Refused refusal) lent = lent
+of_report (Ok given) lent = report_numbers given.delta given.age
+of_report (Err refusal) lent = lent
 
 abbrev pub after_report : ReportAnswer → List ℤ → ReportLeft
 after_report answer lent =
-    record { number = (report_told answer).number; report = of_report answer lent }
+    record { number = (answer_told answer).number; report = of_report answer lent }
 
 unfoldable pub rothc_radiocarbon : List ℕ → ℕ → List ℤ → ReportLeft
 rothc_radiocarbon state pool lent =

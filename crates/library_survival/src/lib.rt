@@ -2,48 +2,49 @@
 // rate number.
 #![tactic(auto)]
 
-ghost use Rattle.std.specs.Prelude.{true, ◌≡◌, ◌≤◌};
+ghost use Rattle.std.specs.Prelude.{true, false, ◌≡◌, ◌≤◌, ◌<◌, MatchOption};
 ghost use Rattle.library_survival.specs.Calls.{has_survival, rothc_survival};
 ghost use Rattle.library_survival.specs.Calls.{rothc_survival_terms};
 
 use step_decay::{pool_counted, survivals};
 
-// What is returned where there is no survival number.
-pub const NO_SURVIVAL: u64 = 18_446_744_073_709_551_615;
+// What C gets where there is no survival number: an Option has no form there.
+pub const NO_SURVIVAL: u64 = u64::MAX;
 
-// Whether there is one: the pool is 0 DPM, 1 RPM, 2 BIO or 3 HUM, and a month can have the rate
-// number.
-fn has_survival(n: u64, pool: u64) -> bool
-    ensures { result ≡ has_survival n pool }
+// The place of the pool, if there is a survival number: the pool is 0 DPM, 1 RPM, 2 BIO or 3 HUM,
+// and a month can have the rate number.
+fn place(n: u64, pool: u64) -> Option<usize>
+    ensures { MatchOption result (has_survival n pool ≡ false)
+        (λ i. (has_survival n pool ≡ true) × ((i ≡ pool) × ((i < 4) × (n ≤ 8363900000)))) }
 {
-    if 3 < pool {
-        return false;
+    if 3 < pool || 8_363_900_000 < n {
+        return None;
     }
-    n <= 8_363_900_000
+    Some(pool as usize)
 }
 
-// A pool's survival number in a month of that rate number.
+// A pool's survival number in a month of that rate number: of the four that the month makes.
+#[tactic(auto, unfolding(crate::specs::Calls::rothc_survival))]
 pub fn survival(n: u64, pool: u64) -> u64
     ensures { result ≡ rothc_survival n pool }
 {
-    if has_survival(n, pool) {
-        let four = survivals(n);
-        let i = pool as usize;
-        return four[i];
+    match place(n, pool) {
+        Some(i) => survivals(n)[i],
+        None => NO_SURVIVAL,
     }
-    NO_SURVIVAL
 }
 
 // The same, and how many terms of the series were summed for it.
+#[tactic(auto, unfolding(crate::specs::Calls::rothc_survival, crate::specs::Calls::rothc_survival_terms))]
 pub fn survival_terms(n: u64, pool: u64, terms: &mut u64) -> u64
     ensures left { record { survival = result; terms = terms.new }
         ≡ rothc_survival_terms n pool terms.old }
     ensures few { has_survival n pool ≡ true → terms.new ≤ 40 }
 {
-    if has_survival(n, pool) {
-        let counted = pool_counted(n, pool as usize);
-        *terms = counted.terms;
-        return counted.survival;
-    }
-    NO_SURVIVAL
+    let Some(i) = place(n, pool) else {
+        return NO_SURVIVAL;
+    };
+    let s = pool_counted(n, i);
+    *terms = s.terms;
+    s.survival
 }

@@ -1,9 +1,10 @@
 -- What rothc_table returns and leaves in lent memory. Memory that a call is lent to read stays as
 -- it was.
+use Rattle.std.specs.Prelude.{Ok, Err}
 use Rattle.std.specs.Prelude.{List, ℕ, ℤ}
-use Rattle.table_import.specs.declared.TableAnswer.{TableAnswer}
-use Rattle.table_import.specs.declared.TableAnswer.TheVariants.{Read, Refused}
-use Rattle.table_import.specs.Table.{TableLeft, table_of, table_told}
+use Rattle.table_import.specs.Table.{TableAnswer}
+use Rattle.table_import.specs.Table.{TableLeft, table_of}
+use Rattle.month_refusals.specs.Asked.{placed_told}
 
 pub record TableCall : Type 0 where
   pub number : ℕ
@@ -13,17 +14,17 @@ pub record TableCall : Type 0 where
 
 -- How many rows were written.
 abbrev pub rows_of : TableAnswer → ℕ
-rows_of (Read rows) = rows
-rows_of (Refused refusal place) = 0
+rows_of (Ok rows) = rows
+rows_of (Err e) = 0
 
 -- The number and the place of the answer, the output, and how many rows stand at its start.
 abbrev pub of_table : TableLeft → TableCall
 of_table left =
     record {
-      number = (table_told left.answer).number;
+      number = (placed_told left.answer).number;
       weather = left.output;
       rows = rows_of left.answer;
-      place = (table_told left.answer).place;
+      place = (placed_told left.answer).place;
     }
 
 unfoldable pub rothc_table : List ℕ → List ℤ → TableCall

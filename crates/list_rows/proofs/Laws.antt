@@ -7,7 +7,7 @@ use native.Mathlib.Nat.{mod-lt, div-add-mod', div-mul-le_self, le-div_iff_mul-le
 use native.Mathlib.Omega.{arith}
 use borrow.Author.Tests.{ltb-false, eqb-true, not-false}
 use lib.Dec.{ltb, eqb}
-use Rattle.month_state.proofs.Tests.{either_false}
+use Rattle.std.proofs.lemmas.Bool.{or_parts}
 use Rattle.list_rows.specs.Rows.{rows_outside}
 
 -- Numbers that 3 lets pass are a row or more, 1,200 rows at most, and nothing besides.
@@ -16,8 +16,8 @@ pub some_rows :
     → (width ≤ count) × (count / width ≤ 1200) × (count ≡ width * (count / width))
 unfolding rows_outside
 some_rows width count some h =
-    let no-rest = either_false (not (eqb (count % width) 0)) (ltb (count / width) 1 || ltb 1200 (count / width)) h in
-    let range = either_false (ltb (count / width) 1) (ltb 1200 (count / width)) no-rest.1 in
+    let no-rest = or_parts (not (eqb (count % width) 0)) (ltb (count / width) 1 || ltb 1200 (count / width)) h in
+    let range = or_parts (ltb (count / width) 1) (ltb 1200 (count / width)) no-rest.1 in
     let least : 1 ≤ count / width = ltb-false (count / width) 1 range.0 in
     let no-remainder : count % width ≡ 0 = eqb-true (count % width) 0 (not-false (eqb (count % width) 0) no-rest.0) in
     let all : count ≡ width * (count / width) = omega (arith, div-add-mod' count width) in

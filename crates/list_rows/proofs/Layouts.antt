@@ -5,12 +5,12 @@ use mathlib.Core.List.{List, [], ◌∷◌, ◌++◌}
 use Prim.Native.Nat.{ℕ, ◌+◌, ◌*◌, ◌≤◌, ◌<◌}
 use native.Mathlib.Omega.{arith}
 use lib.IntN.{ℤ, pos}
-use lib.ListN.{length, get_or, drop}
+use lib.ListN.{length, get_or, take, drop}
 use lib.Seq.{get_or-append_seam, get_or-append-add, length-sets}
 use Rattle.month_state.specs.declared.Weather.{Weather}
 use Rattle.month_state.specs.declared.Land.{Land}
 use Rattle.month_state.specs.declared.Row.{Row}
-use Rattle.month_layouts.proofs.Layouts.{put_there, put_elsewhere, stored}
+use Rattle.month_layouts.proofs.Layouts.{put_there, put_elsewhere, stored, four_there}
 use Rattle.list_rows.specs.Rows.{weather_width, land_width, row_width, weather_from, land_from}
 use Rattle.list_rows.specs.Rows.{weather_numbers, land_numbers, row_numbers, row_written}
 
@@ -40,7 +40,12 @@ unfolding weather_numbers
 weather-same w v rest rest' e =
     (sym (weather-back [] rest w) ∙ ap (λ (l : List ℤ). weather_from l 0) e ∙ weather-back [] rest' v, ap (drop weather_width) e)
 
--- A weather row is read past other numbers as it is without them.
+-- A weather row is what its four numbers say, ..
+pub weather_there : (l : List ℤ) (place : ℕ) {r : List ℤ} → place + weather_width ≤ length l → r ≡ take weather_width (drop place l) → weather_from r 0 ≡ weather_from l place
+unfolding weather_from
+weather_there l place room h = rw (four_there (pos 0) l place room h)
+
+-- .. and is read past other numbers as it is without them.
 past : (before rest : List ℤ) (place c : ℕ) → get_or (before ++ rest) (length before + place + c) (pos 0) ≡ get_or rest (place + c) (pos 0)
 past before rest place c =
     let further : length before + place + c ≡ length before + (place + c) = omega arith in
@@ -75,7 +80,12 @@ land-back before rest l =
       activity = get_or-append-add before all 3 (pos 0) i;
     }
 
--- A land row is read past other numbers as it is without them.
+-- A land row is what its four numbers say, ..
+pub land_there : (l : List ℤ) (place : ℕ) {r : List ℤ} → place + land_width ≤ length l → r ≡ take land_width (drop place l) → land_from r 0 ≡ land_from l place
+unfolding land_from
+land_there l place room h = rw (four_there (pos 0) l place room h)
+
+-- .. and is read past other numbers as it is without them.
 pub land_past : (before rest : List ℤ) (place : ℕ) → land_from (before ++ rest) (length before + place) ≡ land_from rest place
 unfolding land_from
 land_past before rest place =

@@ -1,6 +1,8 @@
 -- Laws of a list's months and of its output: how a list ends, which output it touches, and that its outcome does not depend on the
 -- output that it is lent.
 -- Assumes nothing.
+use Rattle.month_refusals.specs.Asked.{◌on◌}
+use Rattle.std.specs.Prelude.{Ok, Err}
 use mathlib.Core.Path.{◌≡◌, refl, sym, ◌∙◌, ap}
 use mathlib.Core.List.{List}
 use Prim.Native.Nat.{ℕ, zero, suc, ◌+◌, ◌*◌, ◌≤◌, ◌<◌}
@@ -12,19 +14,16 @@ use Rattle.month_state.specs.declared.State.{State}
 use Rattle.month_state.specs.declared.Row.{Row}
 use Rattle.list_rows.specs.Rows.{row_width, row_written}
 use Rattle.list_rows.proofs.Layouts.{row_off, row-length}
-use Rattle.month_refusals.specs.declared.Check.{Check}
-use Rattle.month_refusals.specs.declared.Check.TheVariants.{Pass, Refuse}
+use Rattle.month_refusals.specs.Asked.{Check}
 use Rattle.month_refusals.specs.declared.Refusal.{Refusal}
 use Rattle.month_refusals.specs.Asked.{first_of}
 use Rattle.month_refusals.specs.Refusals.{state_check}
-use Rattle.month_call.specs.declared.Answer.{Answer}
-use Rattle.month_call.specs.declared.Answer.TheVariants.{Done, Refused}
+use Rattle.month_call.specs.Month.{Answer}
 use Rattle.month_call.specs.Month.{list_month}
 use Rattle.month_call.proofs.Laws.{month-sound}
 use Rattle.list_rows.specs.Rows.{land_rows, entries_at}
-use Rattle.list_run.specs.declared.ListAnswer.TheVariants as answers
 use Rattle.list_run.specs.Run.{Left, refused_at, onward, months, rows_written, before_months, list_checked, run}
-use Rattle.list_run.proofs.Laws.{goes_on, stops, Before, before}
+use Rattle.list_run.proofs.Laws.{goes_on, stops, same_refused, Before, before}
 
 -- ---- how the months go
 
@@ -32,14 +31,14 @@ use Rattle.list_run.proofs.Laws.{goes_on, stops, Before, before}
 pub data Course (weather land : List ℤ) : ℕ → ℕ → State → List ℕ → Left → Type 0 where
   finished :
       {j : ℕ} {s : State} {out : List ℕ}
-      → Course weather land zero j s out (record { outcome = record { answer = answers.Finished; state = s }; output = out })
+      → Course weather land zero j s out (record { outcome = record { answer = Ok tt; state = s }; output = out })
   refused :
       {left j : ℕ} {s : State} {out : List ℕ} (refusal : Refusal)
-      → (list_month s (entries_at weather land j)).answer ≡ Refused refusal
+      → (list_month s (entries_at weather land j)).answer ≡ Err refusal
       → Course weather land (suc left) j s out (refused_at refusal (j + 1) (list_month s (entries_at weather land j)).state out)
   month :
       {left j : ℕ} {s : State} {out : List ℕ} {end : Left} (row : Row)
-      → (list_month s (entries_at weather land j)).answer ≡ Done row
+      → (list_month s (entries_at weather land j)).answer ≡ Ok row
       → Course weather land left (suc j) (list_month s (entries_at weather land j)).state (row_written out j row) end
       → Course weather land (suc left) j s out end
 
@@ -49,8 +48,8 @@ module _ (weather land : List ℤ) where
       (left j : ℕ) (s : State) (out : List ℕ) (answer : Answer) → (list_month s (entries_at weather land j)).answer ≡ answer
       → ((s' : State) (out' : List ℕ) → Course weather land left (suc j) s' out' (months left weather land (suc j) s' out'))
       → Course weather land (suc left) j s out (months (suc left) weather land j s out)
-  first left j s out (Done row) e later = rw (goes_on left weather land j s out row e) (month row e (later _ _))
-  first left j s out (Refused refusal) e later = rw (stops left weather land j s out refusal e) (refused refusal e)
+  first left j s out (Ok row) e later = rw (goes_on left weather land j s out row e) (month row e (later _ _))
+  first left j s out (Err refusal) e later = rw (stops left weather land j s out refusal e) (refused refusal e)
 
   pub course : (left j : ℕ) (s : State) (out : List ℕ) → Course weather land left j s out (months left weather land j s out)
   unfolding months
@@ -61,24 +60,24 @@ module _ (weather land : List ℤ) where
 -- A refusal is that of a month, and its place is that month's.
 pub place_in :
     {weather land : List ℤ} {left j : ℕ} {s : State} {out : List ℕ} {end : Left} {refusal : Refusal} {place : ℕ}
-    → Course weather land left j s out end → end.outcome.answer ≡ answers.Refused refusal place
+    → Course weather land left j s out end → end.outcome.answer ≡ Err (refusal on place)
     → (j < place) × (place ≤ j + left)
 place_in finished h = absurd (let z : ◌≡◌ {A = ℕ} 0 1 = cc in omega arith)
-place_in {j} {place} (refused reason e) h = let at : place ≡ j + 1 = cc in (omega arith, omega arith)
+place_in {j} {place} (refused reason e) h = let at : j + 1 ≡ place = (same_refused h).1 in (omega arith, omega arith)
 place_in (month row e later) h = let range = place_in later h in (omega (arith, range.0), omega (arith, range.1))
 
 -- The state that the months leave passes 4 to 7 and 10 again.
 ends-sound :
     {weather land : List ℤ} {left j : ℕ} {s : State} {out : List ℕ} {end : Left} → Course weather land left j s out end
-    → state_check s ≡ Pass → state_check end.outcome.state ≡ Pass
+    → state_check s ≡ Ok tt → state_check end.outcome.state ≡ Ok tt
 ends-sound finished sound = sound
 ends-sound {weather} {land} {j} {s} (refused reason e) sound = month-sound s (entries_at weather land j) sound
 ends-sound {weather} {land} {j} {s} (month row e later) sound =
     ends-sound later (month-sound s (entries_at weather land j) sound)
 
 pub months-sound :
-    (left : ℕ) (weather land : List ℤ) (j : ℕ) (s : State) (out : List ℕ) → state_check s ≡ Pass
-    → state_check (months left weather land j s out).outcome.state ≡ Pass
+    (left : ℕ) (weather land : List ℤ) (j : ℕ) (s : State) (out : List ℕ) → state_check s ≡ Ok tt
+    → state_check (months left weather land j s out).outcome.state ≡ Ok tt
 months-sound left weather land j s out sound = ends-sound (course weather land left j s out) sound
 
 -- ---- the outcome does not depend on the output
@@ -87,8 +86,8 @@ onward-same :
     (answer : Answer) (s : State) (j : ℕ) (out out' : List ℕ) (later : State → List ℕ → Left)
     → ((s : State) (out out' : List ℕ) → (later s out).outcome ≡ (later s out').outcome)
     → (onward answer s j out later).outcome ≡ (onward answer s j out' later).outcome
-onward-same (Done row) s j out out' later same = same s (row_written out j row) (row_written out' j row)
-onward-same (Refused refusal) s j out out' later same = refl
+onward-same (Ok row) s j out out' later same = same s (row_written out j row) (row_written out' j row)
+onward-same (Err refusal) s j out out' later same = refl
 
 pub same_outcome :
     (left : ℕ) (weather land : List ℤ) (j : ℕ) (s : State) (out out' : List ℕ)
@@ -151,8 +150,8 @@ module _ (s : State) (weather land : List ℤ) (out : List ℕ) where
 
   begun_by : (check : Check) → first_of (before_months s weather land (length out)) ≡ check
       → Begun s weather land out the_months (list_checked check s out the_months)
-  begun_by Pass h = started (before s weather land (length out) h)
-  begun_by (Refuse refusal) h = refused refusal
+  begun_by (Ok _) h = started (before s weather land (length out) h)
+  begun_by (Err refusal) h = refused refusal
 
   pub begun : Begun s weather land out the_months (run s weather land out)
   unfolding run
@@ -163,12 +162,12 @@ module _ (s : State) (weather land : List ℤ) (out : List ℕ) where
 
   -- A refusal with place 0 leaves the state and the output as they were.
   nothing-ran : {end : Left} (refusal : Refusal) → Begun s weather land out the_months end
-      → end.outcome.answer ≡ answers.Refused refusal 0 → end ≡ refused_at refusal 0 s out
+      → end.outcome.answer ≡ Err (refusal on 0) → end ≡ refused_at refusal 0 s out
   nothing-ran refusal (refused reason) h =
-      let same : reason ≡ refusal = cc in ap (λ (r : Refusal). refused_at r 0 s out) same
+      ap (λ (r : Refusal). refused_at r 0 s out) (same_refused h).0
   nothing-ran refusal (started passed) h = absurd (let range = place_in whole h in omega (arith, range.0))
 
-  pub outside-months : (refusal : Refusal) → (run s weather land out).outcome.answer ≡ answers.Refused refusal 0
+  pub outside-months : (refusal : Refusal) → (run s weather land out).outcome.answer ≡ Err (refusal on 0)
       → run s weather land out ≡ refused_at refusal 0 s out
   outside-months refusal h = nothing-ran refusal begun h
 

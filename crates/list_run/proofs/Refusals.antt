@@ -1,6 +1,7 @@
 -- A list finds what its list of questions finds: what is asked before its months, then month by month. So each of its refusals is
 -- given exactly where it is the first that applies, with its place.
 -- Assumes nothing.
+use Rattle.std.specs.Prelude.{Ok, Err}
 use mathlib.Core.Path.{◌≡◌, refl, sym, ◌∙◌, ap}
 use mathlib.Core.Bool.{true}
 use mathlib.Core.List.{List}
@@ -9,18 +10,18 @@ use lib.IntN.{ℤ}
 use lib.ListN.{length}
 use Rattle.month_state.specs.declared.State.{State}
 use Rattle.month_state.specs.declared.Entries.{Entries}
-use Rattle.month_refusals.specs.declared.Check.{Check}
-use Rattle.month_refusals.specs.declared.Check.TheVariants.{Pass, Refuse}
+use Rattle.month_refusals.specs.Asked.{Check}
 use Rattle.month_refusals.specs.Asked.{first_of, checking_order, part_of, Found, found, told, number_and_place, Exactly}
 use Rattle.month_refusals.specs.Refusals.{soil_asked, bounds_asked, weather_asked, land_asked, carbon_asked, entries_asked, entries_check}
 use Rattle.month_refusals.proofs.First.{or_else, found_at, found_then, exactly}
 use Rattle.month_call.specs.Month.{outcome_of, list_month}
 use Rattle.list_rows.specs.Rows.{land_rows, entries_at}
-use Rattle.list_run.specs.Run.{Left, onward, months, months_asked, rows_asked, room_asked, before_months, list_asked, list_checked, run, list_found, list_told}
+use Rattle.list_run.specs.Run.{Left, onward, months, months_asked, rows_asked, room_asked, before_months, list_asked, list_checked, run}
+use Rattle.month_refusals.specs.Asked.{placed_found, placed_told}
 
 -- What a list's answer finds.
 abbrev finding : Left → Found
-finding left = list_found left.outcome.answer
+finding left = placed_found left.outcome.answer
 
 -- A month, and those after it.
 month-found :
@@ -28,8 +29,8 @@ month-found :
     → ((out' : List ℕ) → finding (later (outcome_of check s e).state out') ≡ rest)
     → finding (onward (outcome_of check s e).answer (outcome_of check s e).state j out later) ≡ or_else (found_at (j + 1) check) rest
 unfolding outcome_of
-month-found Pass s e j out later rest same = same _
-month-found (Refuse refusal) s e j out later rest same = refl
+month-found (Ok _) s e j out later rest same = same _
+month-found (Err refusal) s e j out later rest same = refl
 
 pub months-found :
     (left : ℕ) (weather land : List ℤ) (j : ℕ) (s : State) (out : List ℕ)
@@ -44,8 +45,8 @@ months-found (suc left) weather land j s out =
 -- A whole list.
 checked_found :
     (check : Check) (s : State) (out : List ℕ) (later : Left) → finding (list_checked check s out later) ≡ or_else (found_at 0 check) (finding later)
-checked_found Pass s out later = refl
-checked_found (Refuse refusal) s out later = refl
+checked_found (Ok _) s out later = refl
+checked_found (Err refusal) s out later = refl
 
 module _ (s : State) (weather land : List ℤ) (out : List ℕ) where
   pub list_found_lem : finding (run s weather land out) ≡ found (list_asked s weather land (length out))
@@ -57,7 +58,7 @@ module _ (s : State) (weather land : List ℤ) (out : List ℕ) where
       ∙ sym (found_then 0 (before_months s weather land (length out)) _)
 
   -- Its number and place are those of the first that applies, ..
-  pub list_told_lem : list_told (run s weather land out).outcome.answer ≡ told (list_asked s weather land (length out))
+  pub list_told_lem : placed_told (run s weather land out).outcome.answer ≡ told (list_asked s weather land (length out))
   list_told_lem = ap number_and_place list_found_lem
 
   -- .. and each refusal is given exactly there.

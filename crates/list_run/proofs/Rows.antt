@@ -1,5 +1,6 @@
 -- Each row that a list writes is its own month's: what that month's call answers from the state after the months before it.
 -- Assumes nothing.
+use Rattle.std.specs.Prelude.{Ok}
 use mathlib.Core.Path.{◌≡◌, sym, ◌∙◌, ap}
 use mathlib.Core.List.{List}
 use Prim.Native.Nat.{ℕ, zero, suc, ◌+◌, ◌*◌, ◌≤◌, ◌<◌}
@@ -8,11 +9,9 @@ use native.Mathlib.Omega.{arith}
 use lib.IntN.{ℤ}
 use lib.ListN.{length, get_or}
 use Rattle.month_state.specs.declared.State.{State}
-use Rattle.month_refusals.specs.declared.Check.TheVariants.{Pass}
 use Rattle.month_refusals.specs.Refusals.{state_check}
 use Rattle.month_state.specs.declared.Row.{Row}
-use Rattle.month_call.specs.declared.Answer.TheVariants.{Done}
-use Rattle.month_call.specs.declared.Outcome.{Outcome}
+use Rattle.month_state.specs.declared.Outcome.{Outcome}
 use Rattle.month_call.specs.Month.{month_call, list_month}
 use Rattle.month_demand3.specs.Calls.{run_calls}
 use Rattle.list_rows.specs.Rows.{land_rows, entries_at}
@@ -24,6 +23,7 @@ use Rattle.month_call.proofs.Laws.{single, month-sound}
 use Rattle.list_run.proofs.Months as courses
 use Rattle.list_run.proofs.Months.{Course, course, kept-before, Begun, begun}
 use Rattle.list_run.proofs.ListCalls.{done_months, shift}
+use Rattle.month_call.specs.Month.{Answer}
 
 -- A row that is written stands at its place, ..
 here : (out : List ℕ) (j : ℕ) (row : Row) → row_width * j + row_width ≤ length out → RowAt (row_written out j row) j row
@@ -37,20 +37,20 @@ stays {j} same at = record { numbers = λ c below. same (row_width * j + c) (ome
 module _ (weather land : List ℤ) where
   -- The first month's row, ..
   first-row :
-      (j : ℕ) (s : State) (row : Row) (output : List ℕ) → state_check s ≡ Pass → (list_month s (entries_at weather land j)).answer ≡ Done row
+      (j : ℕ) (s : State) (row : Row) (output : List ℕ) → state_check s ≡ Ok tt → (list_month s (entries_at weather land j)).answer ≡ Ok row
       → RowAt output j row → OwnRow weather land j s zero output
   unfolding list_calls run_calls
   first-row j s row output sound e at =
       record {
         row = row;
-        call = rw add-zero (ap (λ (o : Outcome). o.answer) (sym (single s (entries_at weather land j) sound)) ∙ e);
+        call = rw add-zero (ap (λ (o : Outcome Answer State). o.answer) (sym (single s (entries_at weather land j) sound)) ∙ e);
         at = rw add-zero at;
       }
 
   -- .. and a later one's.
   later-row :
-      (j : ℕ) (s : State) (row : Row) (ran : ℕ) (output : List ℕ) → state_check s ≡ Pass
-      → (list_month s (entries_at weather land j)).answer ≡ Done row
+      (j : ℕ) (s : State) (row : Row) (ran : ℕ) (output : List ℕ) → state_check s ≡ Ok tt
+      → (list_month s (entries_at weather land j)).answer ≡ Ok row
       → OwnRow weather land (suc j) (list_month s (entries_at weather land j)).state ran output → OwnRow weather land j s (suc ran) output
   unfolding list_calls run_calls
   later-row j s row ran output sound e own =
@@ -68,7 +68,7 @@ module _ (weather land : List ℤ) where
       }
 
   own_row :
-      {left j : ℕ} {s : State} {out : List ℕ} {end : Left} → Course weather land left j s out end → state_check s ≡ Pass
+      {left j : ℕ} {s : State} {out : List ℕ} {end : Left} → Course weather land left j s out end → state_check s ≡ Ok tt
       → row_width * (j + left) ≤ length out → (all : ℕ) → all ≡ j + left
       → (k : ℕ) → j + k < rows_written end.outcome.answer all → OwnRow weather land j s k end.output
   own_row courses.finished sound room all h k below = absurd (omega arith)

@@ -1,19 +1,17 @@
 -- A list of months beside demand 3's list of single month calls.
-use Rattle.std.specs.Prelude.{◌≡◌, List, [], ◌∷◌, ℕ, zero, suc, ◌+◌, ◌*◌, ◌<◌, ℤ, get_or}
+use Rattle.std.specs.Prelude.{Ok, Err, ◌≡◌, List, [], ◌∷◌, ℕ, zero, suc, ◌+◌, ◌*◌, ◌<◌, ℤ, get_or}
 use Rattle.number_exact.specs.Fraction.{◌≼◌, whole}
 use Rattle.step_pools.specs.Pools.{total}
 use Rattle.month_state.specs.declared.Soil.{Soil}
 use Rattle.month_state.specs.declared.State.{State}
 use Rattle.month_state.specs.declared.Row.{Row}
 use Rattle.month_state.specs.State.{new_state}
-use Rattle.list_rows.specs.Rows.{row_width, row_numbers}
 use Rattle.month_refusals.specs.declared.Refusal.{Refusal}
-use Rattle.month_call.specs.declared.Answer.TheVariants.{Done, Refused}
 use Rattle.month_call.specs.Month.{month_call}
 use Rattle.month_demand3.specs.Calls.{Call, run_calls, accepted_calls, added_carbon}
 use Rattle.month_demand3.specs.Recurrence.{Exact, Leads, exact_start, feed}
 use Rattle.month_demand3.specs.Demand.{total_distance}
-use Rattle.list_rows.specs.Rows.{entries_at}
+use Rattle.list_rows.specs.Rows.{row_width, row_numbers, entries_at}
 use Rattle.kept_demand3.specs.Acts.{run_acts, calls}
 use Rattle.list_run.specs.Run.{kept_months}
 
@@ -48,7 +46,7 @@ pub record Stopped
   pub before : Ran weather land j s ran after
   pub call :
       (month_call after (after.months + 1) (entries_at weather land (j + ran))).answer
-      ≡ Refused refusal
+      ≡ Err refusal
 
 -- The months that ran leave the very field that their calls leave (change 2026-02): the state after
 -- them, and the states that they keep. So a list's months are taken back as single months are, and
@@ -83,7 +81,7 @@ pub record OwnRow (weather land : List ℤ) (j : ℕ) (s : State) (ran : ℕ) (o
       (month_call (state_at weather land j s ran) ((state_at weather land j s ran).months + 1)
       (entries_at weather land (j + ran))
       ).answer
-      ≡ Done row
+      ≡ Ok row
   pub at : RowAt output (j + ran) row
 
 -- Demand 3 of a list from the new state of a soil, for so many months that ran.

@@ -1,53 +1,51 @@
 -- A list of months, step 7 of document 01, and what it asks: 3, 4 to 7, 8 and 10 with place 0, then
 -- month by month what a month's entries are asked.
-use Rattle.std.specs.Prelude.{◌||◌, List, [], ◌∷◌, ◌++◌, ℕ, zero, suc, ◌+◌, ◌-◌, ◌*◌, ltb, ℤ, length}
+use Rattle.std.specs.Prelude.{Result, Ok, Err, ◌||◌, List, [], ◌∷◌, ◌++◌, ℕ, zero, suc, ◌+◌, ◌-◌, ◌*◌, ltb, ℤ, length}
 use Rattle.month_state.specs.declared.State.{State}
-use Rattle.list_rows.specs.Rows.{weather_width, land_width, row_width, row_written}
-use Rattle.month_refusals.specs.declared.NumberAndPlace.{NumberAndPlace}
-use Rattle.month_refusals.specs.declared.Check.{Check}
-use Rattle.month_refusals.specs.declared.Check.TheVariants.{Pass, Refuse}
+use Rattle.month_state.specs.declared.Outcome.{Outcome}
+use Rattle.month_refusals.specs.declared.RefusedAt.{RefusedAt}
 use Rattle.month_refusals.specs.declared.Refusal.{Refusal}
 use Rattle.month_refusals.specs.declared.Refusal.TheVariants.{Rows, Room}
-use Rattle.month_refusals.specs.Asked.{Asked, ◌if◌, first_of, Placed, at, Found, nothing, refused}
-use Rattle.month_refusals.specs.Asked.{number_and_place}
+use Rattle.month_refusals.specs.Asked.{Check, Asked, ◌if◌, first_of, Placed, at, ◌on◌}
 use Rattle.month_refusals.specs.Refusals.{soil_asked, bounds_asked, entries_asked}
-use Rattle.month_call.specs.declared.Answer.{Answer}
-use Rattle.month_call.specs.declared.Answer.TheVariants.{Done, Refused}
-use Rattle.month_call.specs.Month.{list_month}
+use Rattle.month_call.specs.Month.{Answer, list_month}
 use Rattle.kept_months.specs.Kept.{keep}
+use Rattle.list_rows.specs.Rows.{weather_width, land_width, row_width, row_written}
 use Rattle.list_rows.specs.Rows.{land_rows, rows_outside, entries_at}
-use Rattle.list_run.specs.declared.ListAnswer.{ListAnswer}
-use Rattle.list_run.specs.declared.ListAnswer.TheVariants as answers
-use Rattle.list_run.specs.declared.ListOutcome.{ListOutcome}
+
+-- A list's answer: it ran to its end, or it was refused at a place: 0, or the month counted from its
+-- first.
+abbrev pub ListAnswer : Type 0
+ListAnswer = Result Unit RefusedAt
 
 -- ---- the months
 
 -- What a list leaves: its answer with the state, and the output.
 pub record Left : Type 0 where
-  pub outcome : ListOutcome
+  pub outcome : Outcome ListAnswer State
   pub output : List ℕ
 
 -- Refused at a place, with a state and the output as it is.
 abbrev pub refused_at : Refusal → ℕ → State → List ℕ → Left
 refused_at refusal place s out =
-    record { outcome = record { answer = answers.Refused refusal place; state = s }; output = out }
+    record { outcome = record { answer = Err (refusal on place); state = s }; output = out }
 
--- The outcome of a list that ends with a month's answer: finished, or the month's refusal at its
+-- The answer of a list that ends with a month's answer: finished, or the month's refusal at its
 -- place.
-abbrev pub ended : Answer → ℕ → State → ListOutcome
-ended (Done row) place s = record { answer = answers.Finished; state = s }
-ended (Refused refusal) place s = record { answer = answers.Refused refusal place; state = s }
+abbrev pub ended : Answer → ℕ → ListAnswer
+ended (Ok row) place = Ok tt
+ended (Err refusal) place = Err (refusal on place)
 
 -- After the month at place j, counted from 0: refused, the list stops there with the state and the
 -- rows before it; else its row is written, and the later months follow.
 abbrev pub onward : Answer → State → ℕ → List ℕ → (State → List ℕ → Left) → Left
-onward (Done row) s j out later = later s (row_written out j row)
-onward (Refused refusal) s j out later = refused_at refusal (j + 1) s out
+onward (Ok row) s j out later = later s (row_written out j row)
+onward (Err refusal) s j out later = refused_at refusal (j + 1) s out
 
 -- So many months, from the one at place j.
 unfoldable pub months : ℕ → List ℤ → List ℤ → ℕ → State → List ℕ → Left
 months zero weather land j s out =
-    record { outcome = record { answer = answers.Finished; state = s }; output = out }
+    record { outcome = record { answer = Ok tt; state = s }; output = out }
 months (suc left) weather land j s out =
     onward (list_month s (entries_at weather land j)).answer
     (list_month s (entries_at weather land j)).state j out
@@ -56,8 +54,8 @@ months (suc left) weather land j s out =
 -- The rows that a list of so many months has written: all, or those before the month that was
 -- refused.
 abbrev pub rows_written : ListAnswer → ℕ → ℕ
-rows_written answers.Finished months = months
-rows_written (answers.Refused refusal place) months = place - 1
+rows_written (Ok _) months = months
+rows_written (Err e) months = e.place - 1
 
 -- What so many months keep, from the one at place j: the state before each of them (change
 -- 2026-02). Of a list they are those that have written their rows: a list that is refused at a month
@@ -101,19 +99,11 @@ list_asked s weather land room =
 
 -- Refused before the months, with everything as it was; else what the months leave.
 abbrev pub list_checked : Check → State → List ℕ → Left → Left
-list_checked Pass s out later = later
-list_checked (Refuse refusal) s out later = refused_at refusal 0 s out
+list_checked (Ok _) s out later = later
+list_checked (Err refusal) s out later = refused_at refusal 0 s out
 
 -- A list of months, one for each land row.
 unfoldable pub run : State → List ℤ → List ℤ → List ℕ → Left
 run s weather land out =
     list_checked (first_of (before_months s weather land (length out))) s out
     (months (land_rows land) weather land 0 s out)
-
--- What a list's answer says is found, and the papers' number and place of it.
-abbrev pub list_found : ListAnswer → Found
-list_found answers.Finished = nothing
-list_found (answers.Refused refusal place) = refused refusal place
-
-abbrev pub list_told : ListAnswer → NumberAndPlace
-list_told answer = number_and_place (list_found answer)

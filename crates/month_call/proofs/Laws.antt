@@ -1,6 +1,7 @@
 -- Laws of the single month call and of a list's month: which refusal is given, that a refusal changes nothing, and what an accepted
 -- month does to a state. Steps.antt has what the steps need.
 -- Assumes nothing.
+use Rattle.std.specs.Prelude.{Ok, Err}
 use mathlib.Core.Path.{◌≡◌, refl, sym, ◌∙◌, ap}
 use Prim.Native.Nat.{ℕ, ◌+◌, ◌≤◌, ◌<◌, ◌^◌}
 use native.Mathlib.Omega.{arith}
@@ -13,24 +14,24 @@ use Rattle.step_turnover.proofs.Laws.{turned_length, modern_turned_length}
 use Rattle.month_state.specs.declared.Soil.{Soil}
 use Rattle.month_state.specs.declared.State.{State}
 use Rattle.month_state.specs.declared.Entries.{Entries}
-use Rattle.month_refusals.specs.declared.Check.{Check}
-use Rattle.month_refusals.specs.declared.Check.TheVariants.{Pass, Refuse}
+use Rattle.month_refusals.specs.Asked.{Check}
 use Rattle.month_refusals.specs.declared.Refusal.{Refusal}
 use Rattle.month_refusals.specs.Asked.{at, found, told, number_and_place, Exactly}
 use Rattle.month_refusals.specs.Refusals.{month_asked, state_check, entries_check, month_check}
 use Rattle.month_refusals.proofs.First.{found_at, found-at, exactly}
 use Rattle.month_state.proofs.Kept.{one-more-most}
 use Rattle.month_refusals.proofs.Accepted.{Sound, Ready, sound-state, state-passes, natural_most, ready, month-parts, month_is_entries}
-use Rattle.month_call.specs.declared.Answer.TheVariants.{Refused}
 use Rattle.month_call.specs.Month.{largest_deficit, pools_after, modern_after, next_deficit, next_rate, moved_to, Accepted, outcome_of, month_call, list_month}
 use Rattle.month_call.specs.declared.AfterSteps.{AfterSteps}
-use Rattle.month_call.specs.Month.{steps_of, answer_found, answer_told}
+use Rattle.month_state.specs.declared.Outcome.{Outcome}
+use Rattle.month_call.specs.Month.{Answer, steps_of}
+use Rattle.month_refusals.specs.Asked.{answer_found, answer_told}
 use Rattle.month_call.proofs.Steps.{deficit-most, state_rate_most, survivals_in_range, month-balance, modern-after-most}
 
 -- ---- acceptance
 
 -- A call that is accepted passes its state and its entries.
-pub accepted : (s : State) (number : ℕ) (e : Entries) → month_check s number e ≡ Pass → Accepted s e
+pub accepted : (s : State) (number : ℕ) (e : Entries) → month_check s number e ≡ Ok tt → Accepted s e
 accepted s number e h =
     let parts = month-parts s number e h in
     record { state = parts.0; entries = parts.2 }
@@ -39,19 +40,19 @@ accepted s number e h =
 
 -- A refusal changes nothing: it returns the refusal and the state that was given.
 pub refusal_returns :
-    (s : State) (number : ℕ) (e : Entries) (r : Refusal) → month_check s number e ≡ Refuse r
-    → month_call s number e ≡ record { answer = Refused r; state = s }
+    (s : State) (number : ℕ) (e : Entries) (r : Refusal) → month_check s number e ≡ Err r
+    → month_call s number e ≡ record { answer = Err r; state = s }
 unfolding month_call outcome_of
 refusal_returns s number e r h = rw h
 
 -- An accepted call runs its month.
 pub accepted_runs :
-    (s : State) (number : ℕ) (e : Entries) → month_check s number e ≡ Pass → month_call s number e ≡ outcome_of Pass s e
+    (s : State) (number : ℕ) (e : Entries) → month_check s number e ≡ Ok tt → month_call s number e ≡ outcome_of (Ok tt) s e
 unfolding month_call
 accepted_runs s number e h = rw h
 
 -- A list's month is the single month call with the number of the next month.
-pub single : (s : State) (e : Entries) → state_check s ≡ Pass → list_month s e ≡ month_call s (s.months + 1) e
+pub single : (s : State) (e : Entries) → state_check s ≡ Ok tt → list_month s e ≡ month_call s (s.months + 1) e
 unfolding list_month month_call
 single s e h = rw (month_is_entries s e h)
 
@@ -60,8 +61,8 @@ single s e h = rw (month_is_entries s e h)
 -- What an outcome's answer says is found is what its check finds.
 pub outcome-found : (check : Check) (s : State) (e : Entries) → answer_found (outcome_of check s e).answer ≡ found_at 0 check
 unfolding outcome_of
-outcome-found Pass s e = refl
-outcome-found (Refuse refusal) s e = refl
+outcome-found (Ok _) s e = refl
+outcome-found (Err refusal) s e = refl
 
 pub call-found : (s : State) (number : ℕ) (e : Entries) → answer_found (month_call s number e).answer ≡ found (at 0 (month_asked s number e))
 unfolding month_call
@@ -80,7 +81,7 @@ call_exactly s number e = exactly (call-found s number e)
 abbrev pub next_state : State → Entries → State
 next_state s e = moved_to s e.land (next_deficit s e) (next_rate s e)
 
-pub next_is : (s : State) (e : Entries) → (outcome_of Pass s e).state ≡ next_state s e
+pub next_is : (s : State) (e : Entries) → (outcome_of (Ok tt) s e).state ≡ next_state s e
 unfolding outcome_of
 next_is s e = refl
 
@@ -179,19 +180,26 @@ steps_fit s e a given =
     let sound = (accepted_moved s e a).sound in
     rw given (omega (arith, sound.months), omega (arith, sound.months, sound.carbon))
 
--- .. and so does an accepted call.
+-- .. and so does an accepted call, ..
 pub accepted_moves :
-    (s : State) (number : ℕ) (e : Entries) → month_check s number e ≡ Pass → Moved s e (month_call s number e).state
+    (s : State) (number : ℕ) (e : Entries) → month_check s number e ≡ Ok tt → Moved s e (month_call s number e).state
 accepted_moves s number e h =
     rw (accepted_runs s number e h, next_is s e) (accepted_moved s e (accepted s number e h))
 
--- The state that a list's month leaves passes 4 to 7 and 10 again, accepted or refused.
-still_sound : (s : State) (e : Entries) (check : Check) → entries_check s e ≡ check → state_check s ≡ Pass
-    → state_check (outcome_of check s e).state ≡ Pass
+-- .. and the state beside an accepted month's row passes 4 to 7 and 10 again.
+pub next_passes :
+    (s : State) (e : Entries) {next : Outcome Answer State} → Accepted s e → next ≡ outcome_of (Ok tt) s e
+    → state_check next.state ≡ Ok tt
 unfolding outcome_of
-still_sound s e Pass h sound = state-passes _ (accepted_moved s e (record { state = sound; entries = h })).sound
-still_sound s e (Refuse refusal) h sound = sound
+next_passes s e a is = rw is (state-passes _ (accepted_moved s e a).sound)
 
-pub month-sound : (s : State) (e : Entries) → state_check s ≡ Pass → state_check (list_month s e).state ≡ Pass
+-- The state that a list's month leaves passes 4 to 7 and 10 again, accepted or refused.
+still_sound : (s : State) (e : Entries) (check : Check) → entries_check s e ≡ check → state_check s ≡ Ok tt
+    → state_check (outcome_of check s e).state ≡ Ok tt
+unfolding outcome_of
+still_sound s e (Ok _) h sound = state-passes _ (accepted_moved s e (record { state = sound; entries = h })).sound
+still_sound s e (Err refusal) h sound = sound
+
+pub month-sound : (s : State) (e : Entries) → state_check s ≡ Ok tt → state_check (list_month s e).state ≡ Ok tt
 unfolding list_month
 month-sound s e sound = still_sound s e (entries_check s e) refl sound

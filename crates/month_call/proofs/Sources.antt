@@ -1,6 +1,7 @@
 -- FOUR FOR THREE: a month with 4 tenths of open pan evaporation is the month with 3 tenths of potential evapotranspiration. Both are
 -- asked the same, and their drying is the same.
 -- Assumes nothing.
+use Rattle.std.specs.Prelude.{Ok, Err}
 use mathlib.Core.Path.{◌≡◌, refl, ◌∙◌, ap, ap₂}
 use mathlib.Core.Bool.{false}
 use mathlib.Core.List.{List, ◌∷◌, ◌++◌}
@@ -11,19 +12,17 @@ use lib.IntN.{pos, nat_abs}
 use Rattle.step_water.proofs.Laws.{deficit_four_for_three}
 use Rattle.month_state.specs.declared.State.{State}
 use Rattle.month_state.specs.declared.Entries.{Entries}
-use Rattle.month_state.proofs.Tests.{false_either}
-use Rattle.month_refusals.specs.declared.Check.{Check}
-use Rattle.month_refusals.specs.declared.Check.TheVariants.{Pass, Refuse}
+use Rattle.std.proofs.lemmas.Bool.{or_from}
+use Rattle.month_refusals.specs.Asked.{Check}
 use Rattle.month_refusals.specs.declared.Refusal.TheVariants.{MonthLimit}
 use Rattle.month_refusals.specs.Asked.{Asked, ◌if◌, first_of}
 use Rattle.month_refusals.specs.Refusals.{outside, temperature_outside, water_outside, source_outside, limit_reached, state_asked, turn_asked}
 use Rattle.month_refusals.specs.Refusals.{weather_asked, carbon_asked, entries_asked, month_asked, entries_check, month_check}
 use Rattle.month_call.specs.Month.{crop, largest_deficit, deficit_after, rate_after, next_deficit, next_rate, row_of, moved_to, outcome_of, month_call, list_month}
-use Rattle.month_call.specs.declared.Answer.TheVariants.{Done}
 use Rattle.month_call.specs.Sources.{with_evaporation, FourForThree}
 
 in_range_lem : (n : ℕ) → n ≤ 20000 → outside (pos 0) (pos 20000) (pos n) ≡ false
-in_range_lem n h = false_either (le-ltb n 0 (omega arith)) (le-ltb 20000 n h)
+in_range_lem n h = or_from _ _ (le-ltb n 0 (omega arith)) (le-ltb 20000 n h)
 
 module _ (s : State) (e : Entries) (k : ℕ) (h : 4 * k ≤ 20000) where
   abbrev pan : Entries
@@ -54,11 +53,11 @@ module _ (s : State) (e : Entries) (k : ℕ) (h : 4 * k ≤ 20000) where
 
   outcome-same : (check : Check) → outcome_of check s pan ≡ outcome_of check s evapotranspired
   unfolding outcome_of
-  outcome-same Pass =
+  outcome-same (Ok _) =
       ap₂
-      (λ (d n : ℕ). record { answer = Done (row_of s.soil e.land d n); state = moved_to s e.land d n })
+      (λ (d n : ℕ). record { answer = Ok (row_of s.soil e.land d n); state = moved_to s e.land d n })
       deficit-same rate_same
-  outcome-same (Refuse refusal) = refl
+  outcome-same (Err refusal) = refl
 
   same_list_month : list_month s pan ≡ list_month s evapotranspired
   unfolding list_month

@@ -1,6 +1,6 @@
 -- The single month call of document 01: its steps on a soil, a deficit and the entries, and its
 -- outcome.
-use Rattle.std.specs.Prelude.{◌≡◌, Bool, List, ℕ, ◌+◌, eqb, nat_abs}
+use Rattle.std.specs.Prelude.{◌≡◌, Bool, List, Result, Ok, Err, ℕ, ◌+◌, eqb, nat_abs}
 use Rattle.number_units.specs.declared.Grams.{Grams}
 use Rattle.step_factors.specs.Factors.{temperature_factor, clay_number}
 use Rattle.step_water.specs.Water.{max_deficit, new_deficit, moisture_factor}
@@ -14,16 +14,16 @@ use Rattle.month_state.specs.declared.Weather.{Weather}
 use Rattle.month_state.specs.declared.Land.{Land}
 use Rattle.month_state.specs.declared.Entries.{Entries}
 use Rattle.month_state.specs.declared.Row.{Row}
+use Rattle.month_state.specs.declared.Outcome.{Outcome}
 use Rattle.month_state.specs.State.{one_more_kept}
-use Rattle.month_refusals.specs.declared.NumberAndPlace.{NumberAndPlace}
-use Rattle.month_refusals.specs.declared.Check.{Check}
-use Rattle.month_refusals.specs.declared.Check.TheVariants.{Pass, Refuse}
-use Rattle.month_refusals.specs.Asked.{Found, nothing, refused, number_and_place}
+use Rattle.month_refusals.specs.declared.Refusal.{Refusal}
+use Rattle.month_refusals.specs.Asked.{Check}
 use Rattle.month_refusals.specs.Refusals.{state_check, entries_check, month_check}
-use Rattle.month_call.specs.declared.Answer.{Answer}
-use Rattle.month_call.specs.declared.Answer.TheVariants.{Done, Refused}
-use Rattle.month_call.specs.declared.Outcome.{Outcome}
 use Rattle.month_call.specs.declared.AfterSteps.{AfterSteps}
+
+-- A month's answer: its row, or why it is refused.
+abbrev pub Answer : Type 0
+Answer = Result Row Refusal
 
 -- ---- the steps
 
@@ -111,8 +111,8 @@ next_rate s e = rate_after s.soil (next_deficit s e) e
 
 -- What a state and its month's entries have to pass: 4 to 7 and 10, and 12 to 17 with 19 and 21.
 pub record Accepted (s : State) (e : Entries) : Type 0 where
-  pub state : state_check s ≡ Pass
-  pub entries : entries_check s e ≡ Pass
+  pub state : state_check s ≡ Ok tt
+  pub entries : entries_check s e ≡ Ok tt
 
 -- Steps 1 to 6 of a state's month: the pools after it, its CO2, the new deficit, and the modern
 -- grams after it.
@@ -127,29 +127,18 @@ steps_of s e =
 
 -- An accepted month gives its row and the state moved on; a refused one the refusal and the very
 -- state that it was given.
-unfoldable pub outcome_of : Check → State → Entries → Outcome
-outcome_of Pass s e =
+unfoldable pub outcome_of : Check → State → Entries → Outcome Answer State
+outcome_of (Ok _) s e =
     record {
-      answer = Done (row_of s.soil e.land (next_deficit s e) (next_rate s e));
+      answer = Ok (row_of s.soil e.land (next_deficit s e) (next_rate s e));
       state = moved_to s e.land (next_deficit s e) (next_rate s e);
     }
-outcome_of (Refuse refusal) s e = record { answer = Refused refusal; state = s }
+outcome_of (Err refusal) s e = record { answer = Err refusal; state = s }
 
 -- The single month call, ..
-unfoldable pub month_call : State → ℕ → Entries → Outcome
+unfoldable pub month_call : State → ℕ → Entries → Outcome Answer State
 month_call s number e = outcome_of (month_check s number e) s e
 
 -- .. and a list's month, of which 12 to 17, 19 and 21 are asked and no month number.
-unfoldable pub list_month : State → Entries → Outcome
+unfoldable pub list_month : State → Entries → Outcome Answer State
 list_month s e = outcome_of (entries_check s e) s e
-
--- ---- numbers and places
-
--- What a single month call's answer says is found: a refusal has the place 0.
-abbrev pub answer_found : Answer → Found
-answer_found (Done row) = nothing
-answer_found (Refused refusal) = refused refusal 0
-
--- The papers' number and place of an answer.
-abbrev pub answer_told : Answer → NumberAndPlace
-answer_told answer = number_and_place (answer_found answer)

@@ -1,5 +1,6 @@
 -- Demand 3 (a): along any list of calls the active pools and the CO2 to date grow by what the accepted calls add, to the gram.
 -- By induction on the list; a month's balance is the month's law. Assumes nothing.
+use Rattle.std.specs.Prelude.{Ok, Err}
 use mathlib.Core.Path.{◌≡◌, refl}
 use mathlib.Core.Bool.{cond}
 use mathlib.Core.List.{List, [], ◌∷◌}
@@ -9,8 +10,7 @@ use lib.IntN.{nat_abs}
 use Rattle.step_pools.specs.Pools.{total}
 use Rattle.month_state.specs.declared.State.{State}
 use Rattle.month_state.specs.declared.Entries.{Entries}
-use Rattle.month_refusals.specs.declared.Check.{Check}
-use Rattle.month_refusals.specs.declared.Check.TheVariants.{Pass, Refuse}
+use Rattle.month_refusals.specs.Asked.{Check}
 use Rattle.month_refusals.specs.Refusals.{month_check}
 use Rattle.month_call.specs.Month.{outcome_of, month_call}
 use Rattle.month_call.proofs.Laws.{accepted, accepted_moved, next_is}
@@ -29,9 +29,9 @@ one-call :
     (t : State) (number : ℕ) (e : Entries) (check : Check) → month_check t number e ≡ check
     → carbon_of (outcome_of check t e).state ≡ carbon_of t + cond (is_done (outcome_of check t e).answer) (addition e) 0
 unfolding outcome_of
-one-call t number e Pass h =
+one-call t number e (Ok _) h =
     omega (arith, rw (next_is t e) at (accepted_moved t e (accepted t number e h)).balance)
-one-call t number e (Refuse refusal) h = omega arith
+one-call t number e (Err refusal) h = omega arith
 
 -- A list of calls.
 pub calls-balance :

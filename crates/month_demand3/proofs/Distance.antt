@@ -1,5 +1,6 @@
 -- Demand 3 (b): along any list of calls a state follows the recurrence, at most 20 grams further from it with each accepted call.
 -- By induction on the list; a month is the step of Step.antt, and a refused call changes neither. Assumes nothing.
+use Rattle.std.specs.Prelude.{Ok, Err}
 use mathlib.Core.Path.{◌≡◌, refl, ap, ap₂, subst}
 use mathlib.Core.Bool.{true, false, cond}
 use mathlib.Core.List.{List, [], ◌∷◌}
@@ -13,8 +14,7 @@ use Rattle.step_pools.specs.Pools.{grams_at}
 use Rattle.month_state.specs.declared.Soil.{Soil}
 use Rattle.month_state.specs.declared.State.{State}
 use Rattle.month_state.specs.declared.Entries.{Entries}
-use Rattle.month_refusals.specs.declared.Check.{Check}
-use Rattle.month_refusals.specs.declared.Check.TheVariants.{Pass, Refuse}
+use Rattle.month_refusals.specs.Asked.{Check}
 use Rattle.month_refusals.specs.Refusals.{month_check}
 use Rattle.month_state.specs.State.{new_state}
 use Rattle.month_call.specs.Month.{deficit_after, rate_after, pools_after, with_pools, moved_to, next_deficit, next_rate, outcome_of, month_call}
@@ -96,14 +96,14 @@ module _ (s : Soil) (t : State) (x : Exact) (n : ℕ) (e : Entries) (q : Fractio
 
 -- One call: where it stands in the list, the recurrence goes on to a holding that the call's state follows.
 one-call :
-    (s : Soil) (t : State) (x y : Exact) (n : ℕ) (e : Entries) (later : List Fed) (check : Check) → (check ≡ Pass → Bounds t e)
+    (s : Soil) (t : State) (x y : Exact) (n : ℕ) (e : Entries) (later : List Fed) (check : Check) → (check ≡ Ok tt → Bounds t e)
     → Follows s t x n → Leads s (record { entries = e; accepted = is_done (outcome_of check t e).answer } ∷ later) x y
     → (z : Exact) × Follows s (outcome_of check t e).state z (n + 20 * cond (is_done (outcome_of check t e).answer) 1 0) × Leads s later z y
 unfolding outcome_of
-one-call s t x y n e later Pass bounds h l =
+one-call s t x y n e later (Ok _) bounds h l =
     let r = leads_month l in
     (exact_month s e r.0 x, month_follows s t x n e r.0 (bounds refl) r.1 h, r.2)
-one-call s t x y n e later (Refuse refusal) bounds h l = (x, rw (add-zero n) h, leads_refused l)
+one-call s t x y n e later (Err refusal) bounds h l = (x, rw (add-zero n) h, leads_refused l)
 
 bound_adds : (n a b : ℕ) → n + 20 * a + 20 * b ≡ n + 20 * (a + b)
 bound_adds n a b = omega arith

@@ -1,5 +1,6 @@
 -- The exact recurrence can always go on: for every list of calls there are survival fractions that are allowed, those of the
 -- program's own numbers among them. So what demand 3 says of every such run is not said of none. Assumes nothing.
+use Rattle.std.specs.Prelude.{Ok, Err}
 use mathlib.Core.Path.{◌≡◌, refl}
 use mathlib.Core.List.{List, [], ◌∷◌}
 use Prim.Native.Nat.{ℕ, ◌+◌, ◌≤◌}
@@ -12,8 +13,7 @@ use Rattle.step_decay.specs.Decay.{Survivals}
 use Rattle.month_state.specs.declared.Soil.{Soil}
 use Rattle.month_state.specs.declared.State.{State}
 use Rattle.month_state.specs.declared.Entries.{Entries}
-use Rattle.month_refusals.specs.declared.Check.{Check}
-use Rattle.month_refusals.specs.declared.Check.TheVariants.{Pass, Refuse}
+use Rattle.month_refusals.specs.Asked.{Check}
 use Rattle.month_refusals.specs.Refusals.{month_check}
 use Rattle.month_state.specs.State.{new_state}
 use Rattle.month_call.specs.Month.{outcome_of, month_call}
@@ -51,17 +51,17 @@ owns_allowed n h =
 
 -- One call: the holding after it, and that it leads there.
 one-call :
-    (s : Soil) (t : State) (x : Exact) (n : ℕ) (e : Entries) (later : List Fed) (check : Check) → (check ≡ Pass → Bounds t e)
+    (s : Soil) (t : State) (x : Exact) (n : ℕ) (e : Entries) (later : List Fed) (check : Check) → (check ≡ Ok tt → Bounds t e)
     → Follows s t x n
     → (z : Exact) × (m : ℕ) × Follows s (outcome_of check t e).state z m
     × ((y : Exact) → Leads s later z y → Leads s (record { entries = e; accepted = is_done (outcome_of check t e).answer } ∷ later) x y)
 unfolding outcome_of
-one-call s t x n e later Pass bounds h =
+one-call s t x n e later (Ok _) bounds h =
     let q = owns (exact_rate s e x) in
     let allowed : AllowedAt q (exact_rate s e x) =
     owns_allowed (exact_rate s e x) (rw (same_rate s t x e h.soil h.deficit) at (bounds refl).survival) in
     (exact_month s e q x, n + 20, month_follows s t x n e q (bounds refl) allowed h, λ y l. month q allowed l)
-one-call s t x n e later (Refuse refusal) bounds h = (x, n, h, λ y l. refused l)
+one-call s t x n e later (Err refusal) bounds h = (x, n, h, λ y l. refused l)
 
 leads_on : (s : Soil) (calls : List Call) (t : State) (x : Exact) (n : ℕ) → Follows s t x n → (y : Exact) × Leads s (feed t calls) x y
 unfolding feed month_call

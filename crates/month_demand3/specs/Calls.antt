@@ -1,11 +1,9 @@
 -- Demand 3's list: any list of single month calls, each given the state that the one before it
 -- returned, after a refusal too.
-use Rattle.std.specs.Prelude.{Bool, true, false, cond, List, [], ◌∷◌, ℕ, ◌+◌, nat_abs}
+use Rattle.std.specs.Prelude.{Bool, true, false, cond, List, [], ◌∷◌, Ok, Err, ℕ, ◌+◌, nat_abs}
 use Rattle.month_state.specs.declared.State.{State}
 use Rattle.month_state.specs.declared.Entries.{Entries}
-use Rattle.month_call.specs.declared.Answer.{Answer}
-use Rattle.month_call.specs.declared.Answer.TheVariants.{Done, Refused}
-use Rattle.month_call.specs.Month.{month_call}
+use Rattle.month_call.specs.Month.{Answer, month_call}
 
 -- A call: its month number and its entries, whatever they are.
 pub record Call : Type 0 where
@@ -18,8 +16,8 @@ state_after s c = (month_call s c.number c.entries).state
 
 -- Whether an answer is an accepted month's.
 abbrev pub is_done : Answer → Bool
-is_done (Done row) = true
-is_done (Refused refusal) = false
+is_done (Ok row) = true
+is_done (Err refusal) = false
 
 -- Whether a call is accepted.
 abbrev pub accepts : State → Call → Bool

@@ -1,11 +1,10 @@
 -- Demand 3, as one claim about every list of single month calls from the new state of every soil
 -- that 4 to 7 accept.
-use Rattle.std.specs.Prelude.{◌≡◌, List, ◌+◌, ◌*◌}
+use Rattle.std.specs.Prelude.{◌≡◌, List, Ok, ◌+◌, ◌*◌}
 use Rattle.number_exact.specs.Fraction.{Fraction, ◌≼◌, whole, ◌⊞◌, distance}
 use Rattle.step_pools.specs.Pools.{grams_at, total}
 use Rattle.month_state.specs.declared.Soil.{Soil}
 use Rattle.month_state.specs.declared.State.{State}
-use Rattle.month_refusals.specs.declared.Check.TheVariants.{Pass}
 use Rattle.month_refusals.specs.Refusals.{soil_check}
 use Rattle.month_state.specs.State.{new_state}
 use Rattle.month_demand3.specs.Calls.{Call, run_calls, accepted_calls, added_carbon}
@@ -32,4 +31,4 @@ pub record Demand3For (s : Soil) (calls : List Call) : Type 0 where
       ≼ whole (20 * accepted_calls (new_state s) calls)
 
 pub record Demand3 : Type 0 where
-  pub holds : (s : Soil) → soil_check s ≡ Pass → (calls : List Call) → Demand3For s calls
+  pub holds : (s : Soil) → soil_check s ≡ Ok tt → (calls : List Call) → Demand3For s calls

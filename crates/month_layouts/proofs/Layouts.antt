@@ -4,8 +4,7 @@
 use mathlib.Core.Path.{◌≡◌, refl, sym, ◌∙◌, ap, ap₂, subst}
 use mathlib.Core.List.{List, [], ◌∷◌, ◌++◌, append_assoc, append-nil}
 use Prim.Native.Nat.{ℕ, zero, suc, ◌+◌, ◌-◌, ◌*◌, ◌≤◌, ◌<◌}
-use native.Mathlib.Nat.{add_assoc, add-suc, add-zero, zero-add}
-use native.Mathlib.Numerals.{add-one}
+use native.Mathlib.Nat.{add_assoc, add-zero, zero-add}
 use native.Mathlib.Omega.{arith}
 use lib.Dec.{lit<}
 use lib.ListN.{length, get_or, set, take, drop, take-append-drop, length-append, length-drop, drop_of_length-le, get_or-append}
@@ -22,26 +21,6 @@ use Rattle.month_layouts.specs.Layouts.{memory_width, field_width, memory_of, fi
 -- ---- numbers of any kind, put from a place on
 
 module _ {A : Type 0} where
-  -- What code stores at place, place + 1, .. is put from place on.
-  abbrev stored_after : List A → ℕ → ℕ → List A → List A
-  stored_after l place k [] = l
-  stored_after l place k (v ∷ values) = stored_after (set l (place + k) v) place (suc k) values
-
-  abbrev pub stored_in_turn : List A → ℕ → List A → List A
-  stored_in_turn l place [] = l
-  stored_in_turn l place (v ∷ values) = stored_after (set l place v) place 1 values
-
-  after : (l : List A) (place k : ℕ) (values : List A) → stored_after l place k values ≡ sets l (place + k) values
-  after l place k [] = refl
-  after l place k (v ∷ values) =
-      after (set l (place + k) v) place (suc k) values
-      ∙ ap (λ (n : ℕ). sets (set l (place + k) v) n values) (add-suc place k)
-
-  pub in_turn : (l : List A) (place : ℕ) (values : List A) → stored_in_turn l place values ≡ sets l place values
-  in_turn l place [] = refl
-  in_turn l place (v ∷ values) =
-      after (set l place v) place 1 values ∙ ap (λ (n : ℕ). sets (set l place v) n values) (add-one place)
-
   -- One that was put is there, ..
   pub put_there :
       (l : List A) (place : ℕ) (values : List A) (c : ℕ) (d : A) → c < length values → place + length values ≤ length l
@@ -84,6 +63,16 @@ module _ {A : Type 0} where
       ∙ sym (append_assoc (take place l) values (drop (place + length values) l))
       ∙ sym (sets-eq values l place room)
 
+  -- Put in place of a part of their length, they are put from where it begins.
+  pub part_written :
+      (l : List A) (place n : ℕ) (values : List A) → n ≡ length values → place + length values ≤ length l
+      → put_mid place n l values ≡ sets l place values
+  part_written l place n values long room =
+      ap (λ (k : ℕ). take place l ++ (values ++ drop k (drop place l))) long
+      ∙ ap (λ (after : List A). take place l ++ (values ++ after)) (drop-drop (length values) place l)
+      ∙ sym (append_assoc (take place l) values (drop (place + length values) l))
+      ∙ sym (sets-eq values l place room)
+
   -- As many as there is memory are all that it has.
   pub stored : (l values : List A) → length l ≡ length values → sets l 0 values ≡ values
   stored l values h =
@@ -117,11 +106,6 @@ module _ {A : Type 0} where
   spelled d l i zero = []
   spelled d l i (suc n) = get_or l i d ∷ spelled d l (suc i) n
 
-  spelled_is : (d : A) (l : List A) (i n : ℕ) → length l ≡ i + n → spelled d l i n ≡ drop i l
-  spelled_is d l i zero h = sym (drop_of_length-le l {i = i} (omega arith))
-  spelled_is d l i (suc n) h =
-      ap (◌∷◌ (get_or l i d)) (spelled_is d l (suc i) n (omega arith)) ∙ sym (drop-cons l i d (omega arith))
-
   -- So many of its first elements, ..
   spelled_take : (d : A) (l : List A) (i n : ℕ) → i + n ≤ length l → spelled d l i n ≡ take n (drop i l)
   spelled_take d l i zero h = refl
@@ -133,7 +117,20 @@ module _ {A : Type 0} where
 
   -- .. and as many as it has are the whole list.
   pub whole : (d : A) (l : List A) (n : ℕ) → length l ≡ n → spelled d l 0 n ≡ l
-  whole d l n h = spelled_is d l 0 n (omega arith)
+  whole d l n h = first_elements d l n (omega arith) ∙ take_all n l (omega arith)
+
+  -- What `numbers_at` reads from a place on, spelled out; and four of them, a row of weather or land.
+  pub read_there : (d : A) (l : List A) (place n : ℕ) {r : List A} → place + n ≤ length l → r ≡ take n (drop place l) → r ≡ spelled d l place n
+  read_there d l place n room h = h ∙ sym (spelled_take d l place n room)
+
+  pub four_there :
+      (d : A) (l : List A) (place : ℕ) {r : List A} → place + 4 ≤ length l → r ≡ take 4 (drop place l)
+      → r ≡ get_or l place d ∷ get_or l (place + 1) d ∷ get_or l (place + 2) d ∷ get_or l (place + 3) d ∷ []
+  four_there d l place room h =
+      let one : suc place ≡ place + 1 = omega arith in
+      let two : suc (suc place) ≡ place + 2 = omega arith in
+      let three : suc (suc (suc place)) ≡ place + 3 = omega arith in
+      read_there d l place 4 room h ∙ rw (three, two, one)
 
 -- ---- states
 

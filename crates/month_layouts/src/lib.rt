@@ -1,11 +1,12 @@
 // The layouts of soils and states as numbers in lent memory, read and written. The crate list_rows
-// has those of rows.
+// has those of rows. Memory is a slice and not an array, since it may go on after them. There is no
+// `From`: it would have to stand in month_state, beside the types.
 #![tactic(auto)]
 
-ghost use Rattle.std.specs.Prelude.{◌≡◌, ◌+◌, ◌≤◌, length};
+ghost use Rattle.std.specs.Prelude.{◌≡◌, ◌+◌, ◌≤◌, length, take, drop};
 ghost use Rattle.std.proofs.lemmas.List.Edits.{sets};
 ghost use Rattle.month_layouts.specs.Layouts.{soil_width, kept_width, state_width};
-ghost use Rattle.month_layouts.specs.Layouts.{pools_from, soil_from, state_from, state_of};
+ghost use Rattle.month_layouts.specs.Layouts.{soil_from, state_from, state_of};
 ghost use Rattle.month_layouts.specs.Layouts.{kept_numbers, state_numbers};
 
 use month_state::{Soil, State};
@@ -20,20 +21,25 @@ pub const KEPT_WIDTH: usize = 15;
 
 pub const STATE_WIDTH: usize = KEPT_WIDTH + 1;
 
-pub const MEMORY_WIDTH: usize = KEPT_WIDTH * 24;
+pub const MEMORY_WIDTH: usize = KEPT_WIDTH * State::KEPT_LIMIT as usize;
 
 pub const FIELD_WIDTH: usize = STATE_WIDTH + MEMORY_WIDTH;
 
-// Four pools from a place on.
-fn pools_from(numbers: &[u64], place: usize) -> [Grams; 4]
-    requires { place + 4 ≤ length numbers.now }
-    ensures { result ≡ pools_from numbers.now place }
+// The N numbers from a place on.
+pub fn numbers_at<T: Copy, const N: usize>(numbers: &[T], place: usize) -> [T; N]
+    requires { place + N ≤ length numbers.now }
+    ensures { result ≡ take N (drop place numbers.now) }
 {
-    let dpm = numbers[place];
-    let rpm = numbers[place + 1];
-    let bio = numbers[place + 2];
-    let hum = numbers[place + 3];
-    [Grams(dpm), Grams(rpm), Grams(bio), Grams(hum)]
+    *numbers[place..].first_chunk().unwrap()
+}
+
+// N numbers, written from a place on. Everything else stays.
+#[tactic(auto, using(crate::proofs::Layouts::part_written))]
+pub fn put_numbers_at<T: Copy, const N: usize>(numbers: &mut [T], place: usize, values: [T; N])
+    requires { place + N ≤ length numbers.old }
+    ensures { numbers.new ≡ sets numbers.old place values }
+{
+    numbers[place..place + N].copy_from_slice(&values);
 }
 
 // The soil that memory begins with.
@@ -41,13 +47,13 @@ pub fn soil_of(numbers: &[u64]) -> Soil
     requires { soil_width ≤ length numbers.now }
     ensures { result ≡ soil_from numbers.now 0 }
 {
-    let pools = pools_from(numbers, 3);
+    let [clay, depth, kind, dpm, rpm, bio, hum, iom]: [u64; SOIL_WIDTH] = numbers_at(numbers, 0);
     Soil {
-        clay: numbers[0],
-        depth: numbers[1],
-        kind: numbers[2],
-        pools,
-        iom: Grams(numbers[7]),
+        clay,
+        depth,
+        kind,
+        pools: [Grams(dpm), Grams(rpm), Grams(bio), Grams(hum)],
+        iom: Grams(iom),
     }
 }
 
@@ -56,53 +62,49 @@ pub fn kept_of(numbers: &[u64], kept: u64) -> State
     requires { kept_width ≤ length numbers.now }
     ensures { result ≡ state_from numbers.now 0 kept }
 {
-    let soil = soil_of(numbers);
-    let modern = pools_from(numbers, 11);
+    let [deficit, months, co2, dpm, rpm, bio, hum]: [u64; 7] = numbers_at(numbers, SOIL_WIDTH);
     State {
-        soil,
-        deficit: Parts(numbers[8]),
-        months: numbers[9],
-        co2: Grams(numbers[10]),
-        modern,
+        soil: soil_of(numbers),
+        deficit: Parts(deficit),
+        months,
+        co2: Grams(co2),
+        modern: [Grams(dpm), Grams(rpm), Grams(bio), Grams(hum)],
         kept,
     }
 }
 
 // The current state that memory begins with.
+#[tactic(auto, unfolding(crate::specs::Layouts::state_of))]
 pub fn state_of(numbers: &[u64]) -> State
     requires { state_width ≤ length numbers.now }
     ensures { result ≡ state_of numbers.now }
 {
-    let kept = numbers[KEPT_WIDTH];
-    kept_of(numbers, kept)
+    kept_of(numbers, numbers[KEPT_WIDTH])
 }
 
 // The numbers that are kept of a state, written at the start of memory. Everything else stays.
+#[tactic(auto, unfolding(crate::specs::Layouts::kept_numbers))]
 pub fn put_kept(numbers: &mut [u64], s: State)
     requires { kept_width ≤ length numbers.old }
     ensures { numbers.new ≡ sets numbers.old 0 (kept_numbers s) }
 {
     let soil = s.soil;
     let pools = soil.pools;
-    let modern = s.modern;
-    numbers[0] = soil.clay;
-    numbers[1] = soil.depth;
-    numbers[2] = soil.kind;
-    numbers[3] = pools[0].0;
-    numbers[4] = pools[1].0;
-    numbers[5] = pools[2].0;
-    numbers[6] = pools[3].0;
-    numbers[7] = soil.iom.0;
-    numbers[8] = s.deficit.0;
-    numbers[9] = s.months;
-    numbers[10] = s.co2.0;
-    numbers[11] = modern[0].0;
-    numbers[12] = modern[1].0;
-    numbers[13] = modern[2].0;
-    numbers[14] = modern[3].0;
+    let Grams(iom) = soil.iom;
+    let Parts(deficit) = s.deficit;
+    let [dpm, rpm, bio, hum] = s.modern;
+    put_numbers_at(
+        numbers,
+        0,
+        [
+            soil.clay, soil.depth, soil.kind, pools[0].0, pools[1].0, pools[2].0, pools[3].0, iom,
+            deficit, s.months, s.co2.0, dpm.0, rpm.0, bio.0, hum.0,
+        ],
+    );
 }
 
 // The numbers of the current state, written at the start of memory. Everything else stays.
+#[tactic(auto, unfolding(crate::specs::Layouts::state_numbers, crate::specs::Layouts::kept_numbers))]
 pub fn put_state(numbers: &mut [u64], s: State)
     requires { state_width ≤ length numbers.old }
     ensures { numbers.new ≡ sets numbers.old 0 (state_numbers s) }

@@ -1,13 +1,13 @@
 -- The one law of refusals, over any list of what is asked: a refusal is given exactly where its condition holds and none before it
 -- in the list does, and nothing is found exactly where none applies. With it, how lists are joined and placed.
 -- Assumes nothing.
+use Rattle.std.specs.Prelude.{Ok, Err}
 use mathlib.Core.Path.{◌≡◌, refl, sym, ◌∙◌, ap}
 use mathlib.Core.Bool.{Bool, true, false, not, ◌||◌, ◌&&◌}
 use mathlib.Core.List.{List, [], ◌∷◌, ◌++◌}
 use Prim.Native.Nat.{ℕ, ◌+◌}
 use native.Mathlib.Omega.{arith}
-use Rattle.month_refusals.specs.declared.Check.{Check}
-use Rattle.month_refusals.specs.declared.Check.TheVariants.{Pass, Refuse}
+use Rattle.month_refusals.specs.Asked.{Check}
 use Rattle.month_refusals.specs.declared.Refusal.{Refusal}
 use Rattle.month_refusals.specs.Asked.{check_number, number_and_place, Asked, given, first_of, Finds, Placed, at, Found, nothing, refused}
 use Rattle.month_refusals.specs.Asked.{found_if, found, First, here, after, NoneApplies, none, more, Exactly}
@@ -26,8 +26,8 @@ found_later places (refused r place) = refused r (places + place)
 
 -- What a check finds, at a place.
 abbrev pub found_at : ℕ → Check → Found
-found_at place Pass = nothing
-found_at place (Refuse r) = refused r place
+found_at place (Ok _) = nothing
+found_at place (Err r) = refused r place
 
 if_else : (test : Bool) (r : Refusal) (place : ℕ) (x y : Found) → found_if test r place (or_else x y) ≡ or_else (found_if test r place x) y
 if_else true r place x y = refl
@@ -58,8 +58,8 @@ found_then place asked rest = found-append (at place asked) rest ∙ rw (found-a
 
 -- What a check finds is what its list finds, and so is its number.
 number-told : (check : Check) → check_number check ≡ (number_and_place (found_at 0 check)).number
-number-told Pass = refl
-number-told (Refuse r) = refl
+number-told (Ok _) = refl
+number-told (Err r) = refl
 
 pub finds : {check : Check} (asked : List Asked) → check ≡ first_of asked → Finds asked check
 finds {check} asked e =
@@ -69,7 +69,7 @@ finds {check} asked e =
     }
 
 -- The first of a list applies, or it doesn't and the later ones are asked.
-pub asked-true : {x : Asked} {later : List Asked} → x.applies ≡ true → Finds (x ∷ later) (Refuse x.refusal)
+pub asked-true : {x : Asked} {later : List Asked} → x.applies ≡ true → Finds (x ∷ later) (Err x.refusal)
 unfolding first_of
 asked-true {x} {later} h = finds (x ∷ later) (rw h)
 
@@ -77,14 +77,14 @@ pub asked-false : {x : Asked} {later : List Asked} {check : Check} → x.applies
 unfolding first_of
 asked-false {x} {later} h rest = finds (x ∷ later) (rw h rest.first)
 
-pub none_left : Finds [] Pass
+pub none_left : Finds [] (Ok tt)
 unfolding first_of
 none_left = finds [] refl
 
 -- What the checks of one part find, then those of the next.
 abbrev pub followed_by : Check → Check → Check
-followed_by Pass later = later
-followed_by (Refuse refusal) later = Refuse refusal
+followed_by (Ok _) later = later
+followed_by (Err refusal) later = Err refusal
 
 given_followed : (test : Bool) (r : Refusal) (x y : Check) → given test r (followed_by x y) ≡ followed_by (given test r x) y
 given_followed true r x y = refl
@@ -96,32 +96,39 @@ first-append [] b = refl
 first-append (x ∷ a) b = ap (given x.applies x.refusal) (first-append a b) ∙ given_followed x.applies x.refusal (first_of a) (first_of b)
 
 -- One part passes and the next is asked, or its refusal is the whole's.
-pub then_asked : (a : List Asked) {b : List Asked} {check : Check} → first_of a ≡ Pass → Finds b check → Finds (a ++ b) check
+pub then_asked : (a : List Asked) {b : List Asked} {check : Check} → first_of a ≡ Ok tt → Finds b check → Finds (a ++ b) check
 then_asked a {b} pass rest = finds (a ++ b) (rest.first ∙ sym (rw pass at (first-append a b)))
 
-pub then_refused : (a b : List Asked) {r : Refusal} → first_of a ≡ Refuse r → Finds (a ++ b) (Refuse r)
+pub then_refused : (a b : List Asked) {r : Refusal} → first_of a ≡ Err r → Finds (a ++ b) (Err r)
 then_refused a b refuses = finds (a ++ b) (sym (rw refuses at (first-append a b)))
 
+-- The same of what the checks of both return.
+pub part_passes : (a b : List Asked) {part whole : Check} → Finds a part → part ≡ Ok tt → Finds b whole → Finds (a ++ b) whole
+part_passes a b of_part pass rest = then_asked a (sym of_part.first ∙ pass) rest
+
+pub part_refuses : (a b : List Asked) {part whole : Check} {r : Refusal} → Finds a part → part ≡ Err r → whole ≡ Err r → Finds (a ++ b) whole
+part_refuses a b of_part refuses is = rw is (then_refused a b (sym of_part.first ∙ refuses))
+
 -- A list passes exactly where each part of it does.
-pub given-passes : (test : Bool) (r : Refusal) (later : Check) → given test r later ≡ Pass → (test ≡ false) × (later ≡ Pass)
+pub given-passes : (test : Bool) (r : Refusal) (later : Check) → given test r later ≡ Ok tt → (test ≡ false) × (later ≡ Ok tt)
 given-passes true r later h = absurd (let z : ◌≡◌ {A = ℕ} 0 1 = cc in omega arith)
 given-passes false r later h = (refl, h)
 
-pub passes-one : (x : Asked) (later : List Asked) → first_of (x ∷ later) ≡ Pass → (x.applies ≡ false) × (first_of later ≡ Pass)
+pub passes-one : (x : Asked) (later : List Asked) → first_of (x ∷ later) ≡ Ok tt → (x.applies ≡ false) × (first_of later ≡ Ok tt)
 unfolding first_of
 passes-one x later h = given-passes x.applies x.refusal (first_of later) h
 
-pub one_passes : (r : Refusal) {test : Bool} {later : Check} → test ≡ false → later ≡ Pass → given test r later ≡ Pass
+pub one_passes : (r : Refusal) {test : Bool} {later : Check} → test ≡ false → later ≡ Ok tt → given test r later ≡ Ok tt
 one_passes r h rest = rw h rest
 
-followed_passes : (x later : Check) → followed_by x later ≡ Pass → (x ≡ Pass) × (later ≡ Pass)
-followed_passes Pass later h = (refl, h)
-followed_passes (Refuse r) later h = absurd (let z : ◌≡◌ {A = ℕ} 0 1 = cc in omega arith)
+followed_passes : (x later : Check) → followed_by x later ≡ Ok tt → (x ≡ Ok tt) × (later ≡ Ok tt)
+followed_passes (Ok _) later h = (refl, h)
+followed_passes (Err r) later h = absurd (let z : ◌≡◌ {A = ℕ} 0 1 = cc in omega arith)
 
-pub passes-parts : (a b : List Asked) → first_of (a ++ b) ≡ Pass → (first_of a ≡ Pass) × (first_of b ≡ Pass)
+pub passes-parts : (a b : List Asked) → first_of (a ++ b) ≡ Ok tt → (first_of a ≡ Ok tt) × (first_of b ≡ Ok tt)
 passes-parts a b h = followed_passes (first_of a) (first_of b) (sym (first-append a b) ∙ h)
 
-pub parts_pass : (a b : List Asked) → first_of a ≡ Pass → first_of b ≡ Pass → first_of (a ++ b) ≡ Pass
+pub parts_pass : (a b : List Asked) → first_of a ≡ Ok tt → first_of b ≡ Ok tt → first_of (a ++ b) ≡ Ok tt
 parts_pass a b ha hb = rw ha at (first-append a b) ∙ hb
 
 -- All that is asked and may apply are a call's own refusals.
@@ -138,7 +145,7 @@ own_applies true h = refl
 own_applies false h = h
 
 -- A check finds one of them.
-pub finds_own : (own : Refusal → Bool) (asked : List Asked) {r : Refusal} → all_own own asked ≡ true → first_of asked ≡ Refuse r → own r ≡ true
+pub finds_own : (own : Refusal → Bool) (asked : List Asked) {r : Refusal} → all_own own asked ≡ true → first_of asked ≡ Err r → own r ≡ true
 unfolding first_of
 finds_own own [] all h = absurd (let z : ◌≡◌ {A = ℕ} 0 1 = cc in omega arith)
 finds_own own (x ∷ later) all h =
@@ -146,7 +153,7 @@ finds_own own (x ∷ later) all h =
     by_test x.applies x.refusal (first_of later) both.0 (finds_own own later both.1) h
   where
     by_test : {r : Refusal} (test : Bool) (reason : Refusal) (rest : Check) → (own reason || not test) ≡ true
-        → (rest ≡ Refuse r → own r ≡ true) → given test reason rest ≡ Refuse r → own r ≡ true
+        → (rest ≡ Err r → own r ≡ true) → given test reason rest ≡ Err r → own r ≡ true
     by_test {r} true reason rest is later h = let same : reason ≡ r = cc in rw (sym same) (own_applies (own reason) is)
     by_test false reason rest is later h = later h
 

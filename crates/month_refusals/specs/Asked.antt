@@ -1,34 +1,10 @@
 -- Refusals in checking order: what a call asks is a list, and the first that applies is the one
 -- that it gives. The order is the place in the list, never the number.
-use Rattle.std.specs.Prelude.{◌≡◌, Bool, true, false, cond, List, [], ◌∷◌, ℕ, eqb}
-use Rattle.month_refusals.specs.declared.Check.{Check}
-use Rattle.month_refusals.specs.declared.Check.TheVariants.{Pass, Refuse}
+use Rattle.std.specs.Prelude.{◌≡◌, Bool, true, false, cond, List, [], ◌∷◌, Result, Ok, Err, ℕ, eqb}
 use Rattle.month_refusals.specs.declared.NumberAndPlace.{NumberAndPlace}
+use Rattle.month_refusals.specs.declared.RefusedAt.{RefusedAt}
 use Rattle.month_refusals.specs.declared.Refusal.{Refusal}
-use Rattle.month_refusals.specs.declared.Refusal.TheVariants.{
-  Length,
-  Form,
-  Rows,
-  Clay,
-  Depth,
-  Kind,
-  Carbon,
-  Room,
-  Years,
-  Bounds,
-  Turn,
-  MonthLimit,
-  Temperature,
-  Water,
-  Cover,
-  Additions,
-  Ceiling,
-  TableForm,
-  Source,
-  NoneKept,
-  Activity,
-  NoCarbon,
-}
+use Rattle.month_refusals.specs.declared.Refusal.TheVariants.{Length, Form, Rows, Clay, Depth, Kind, Carbon, Room, Years, Bounds, Turn, MonthLimit, Temperature, Water, Cover, Additions, Ceiling, TableForm, Source, NoneKept, Activity, NoCarbon}
 
 -- ---- numbers
 
@@ -57,10 +33,14 @@ refusal_number NoneKept = 20
 refusal_number Activity = 21
 refusal_number NoCarbon = 22
 
+-- What a check finds: nothing, or the first refusal that applies.
+abbrev pub Check : Type 0
+Check = Result Unit Refusal
+
 -- The number of what a check finds, 0 where it finds nothing.
 abbrev pub check_number : Check → ℕ
-check_number Pass = 0
-check_number (Refuse refusal) = refusal_number refusal
+check_number (Ok _) = 0
+check_number (Err refusal) = refusal_number refusal
 
 -- ---- what is asked
 
@@ -75,12 +55,12 @@ refusal if applies = record { refusal = refusal; applies = applies }
 
 -- Refused where the test is true, else what the later checks find.
 abbrev pub given : Bool → Refusal → Check → Check
-given true refusal later = Refuse refusal
+given true refusal later = Err refusal
 given false refusal later = later
 
 -- The first that applies.
 unfoldable pub first_of : List Asked → Check
-first_of [] = Pass
+first_of [] = Ok tt
 first_of (asked ∷ later) = given asked.applies asked.refusal (first_of later)
 
 -- Document 01's list of refusals in checking order, with document 02's: 18 before a table line's 13
@@ -136,6 +116,28 @@ number_and_place (refused refusal place) = record { number = refusal_number refu
 -- The number and place of the first that applies.
 abbrev pub told : List Placed → NumberAndPlace
 told asked = number_and_place (found asked)
+
+-- A refusal on a line, or at a place.
+infix 70 ◌on◌
+abbrev pub ◌on◌ : Refusal → ℕ → RefusedAt
+refusal on place = record { refusal = refusal; place = place }
+
+-- What an answer says is found: nothing, or its refusal at its place.
+abbrev pub placed_found : {Given : Type 0} → Result Given RefusedAt → Found
+placed_found (Ok given) = nothing
+placed_found (Err e) = refused e.refusal e.place
+
+-- The same of an answer that has no place: its refusal has the place 0.
+abbrev pub answer_found : {Given : Type 0} → Result Given Refusal → Found
+answer_found (Ok given) = nothing
+answer_found (Err refusal) = refused refusal 0
+
+-- The papers' number and place of an answer.
+abbrev pub placed_told : {Given : Type 0} → Result Given RefusedAt → NumberAndPlace
+placed_told answer = number_and_place (placed_found answer)
+
+abbrev pub answer_told : {Given : Type 0} → Result Given Refusal → NumberAndPlace
+answer_told answer = number_and_place (answer_found answer)
 
 -- What a check promises: the first that applies, and the papers' number of it.
 pub record Finds (asked : List Asked) (check : Check) : Type 0 where

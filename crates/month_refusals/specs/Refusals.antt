@@ -10,23 +10,8 @@ use Rattle.month_state.specs.declared.Weather.{Weather}
 use Rattle.month_state.specs.declared.Land.{Land}
 use Rattle.month_state.specs.declared.Entries.{Entries}
 use Rattle.month_state.specs.State.{carbon_ceiling, month_limit, kept_limit}
-use Rattle.month_refusals.specs.declared.Check.{Check}
-use Rattle.month_refusals.specs.declared.Refusal.TheVariants.{
-  Clay,
-  Depth,
-  Kind,
-  Carbon,
-  Bounds,
-  Turn,
-  MonthLimit,
-  Temperature,
-  Water,
-  Source,
-  Cover,
-  Additions,
-  Activity,
-  Ceiling,
-}
+use Rattle.month_refusals.specs.Asked.{Check}
+use Rattle.month_refusals.specs.declared.Refusal.TheVariants.{Clay, Depth, Kind, Carbon, Bounds, Turn, MonthLimit, Temperature, Water, Source, Cover, Additions, Activity, Ceiling}
 use Rattle.month_refusals.specs.Asked.{Asked, ◌if◌, first_of}
 
 -- ---- the conditions

@@ -1,4 +1,3 @@
 pub mod Counting
 pub mod Kept
 pub mod Signed
-pub mod Tests

@@ -7,8 +7,9 @@ ghost use Rattle.month_state.specs.State.{new_state, five_pools, one_more_kept};
 use number_units::{Grams, Parts};
 use step_pools::total;
 
-// A soil: clay in tenths of a percent, depth in cm, the kind of its plants, its four active pools
-// in the order DPM, RPM, BIO, HUM, and its inert carbon.
+// A soil: clay in tenths of a percent, depth in cm, the number of its plants' kind as it was read
+// (another than the kinds have is refused and not misread), its four active pools in the order DPM,
+// RPM, BIO, HUM, and its inert carbon.
 #[derive(Clone, Copy)]
 pub struct Soil {
     pub clay: u64,
@@ -71,6 +72,13 @@ pub struct Row {
     pub deficit: Parts,
 }
 
+// What a call answers, with the state beside it.
+#[derive(Clone, Copy)]
+pub struct Outcome<T, S> {
+    pub answer: T,
+    pub state: S,
+}
+
 impl State {
     // What the active pools together, or IOM, may have.
     pub const CARBON_CEILING: u64 = 1_000_000_000;
@@ -81,6 +89,7 @@ impl State {
 
     // A new state: 0 for the deficit, the months done and the CO2 to date, as many modern grams as
     // grams, and none kept.
+    #[tactic(auto, unfolding(crate::specs::State::new_state))]
     pub fn new(soil: Soil) -> State
         ensures { result ≡ new_state soil }
     {
@@ -101,23 +110,18 @@ pub fn five_pools(s: State) -> Grams
     requires { five_pools s < 2 ^ 64 }
     ensures { result.0 ≡ five_pools s }
 {
-    let soil = s.soil;
-    let pools = soil.pools;
-    let active = total(pools);
-    Grams(active.0 + soil.iom.0)
+    total(s.soil.pools) + s.soil.iom
 }
 
 // How many states are kept after one month more: past the limit the oldest goes.
 pub fn one_more_kept(kept: u64) -> u64
     ensures { result ≡ one_more_kept kept }
 {
-    if kept < State::KEPT_LIMIT {
-        return kept + 1;
-    }
-    State::KEPT_LIMIT
+    kept.saturating_add(1).min(State::KEPT_LIMIT)
 }
 
-// A signed number that is not below 0, as one without a sign.
+// A signed number that is not below 0, as one without a sign. By `as`, whose proof shows that it is
+// not below 0; `unsigned_abs` would turn -1 into 1.
 pub fn natural(z: i64) -> u64
     requires { pos 0 ≤ℤ z }
     ensures { result ≡ nat_abs z }

@@ -5,7 +5,6 @@ pub mod Laws
 pub mod Scaling
 pub mod Order
 pub mod Tests
-pub mod Arms
 pub mod Nearest
 pub mod Fraction
 pub mod Close

@@ -19,6 +19,9 @@ pub enum Age {
     Newer,
 }
 
+// The two numbers and their bounds have no type of their own, here and below: `age_of` alone would
+// make it, for two functions of one call each.
+//
 // Whether the survival number of y years is at most 1,000,000,000 × modern / carbon.
 fn does(modern: u64, carbon: u64, y: u64) -> bool
     requires { (modern ≤ carbon) × (carbon ≤ 2000000000) × (y ≤ age_limit) }
@@ -28,7 +31,7 @@ fn does(modern: u64, carbon: u64, y: u64) -> bool
 }
 
 // The smallest age that does it, where the largest does. It is never below `low`, and `high` always
-// does it.
+// does it. By hand: the library searches slices by halves, and ages are computed, in no slice.
 fn smallest(modern: u64, carbon: u64) -> u64
     requires grams { (modern ≤ carbon) × (carbon ≤ 2000000000) }
     requires found { does modern carbon age_limit ≡ true }

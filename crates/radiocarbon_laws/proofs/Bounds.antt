@@ -1,6 +1,8 @@
 -- STAYS ACCEPTED: an accepted month leaves a sound state, a refused one the state that it was given. With takings-back a list ends as its
 -- months that remain do, the kept ones aside, and these are never more than 24.
 -- Assumes nothing.
+use Rattle.month_call.specs.Month.{Answer}
+use Rattle.std.specs.Prelude.{Ok, Err}
 use mathlib.Core.Path.{◌≡◌, refl, sym, ◌∙◌, ap, subst}
 use mathlib.Core.Bool.{Bool, true, false}
 use mathlib.Core.List.{List, [], ◌∷◌}
@@ -12,12 +14,11 @@ use lib.ListN.{length}
 use Rattle.month_state.specs.declared.State.{State}
 use Rattle.month_state.specs.State.{kept_limit, kept_aside}
 use Rattle.month_layouts.specs.Layouts.{state_from}
-use Rattle.month_refusals.specs.declared.Check.{Check}
-use Rattle.month_refusals.specs.declared.Check.TheVariants.{Pass, Refuse}
+use Rattle.month_refusals.specs.Asked.{Check}
 use Rattle.month_refusals.specs.Asked.{first_of}
 use Rattle.month_refusals.specs.Refusals.{carbon_bounds_passed, modern_above, bounds_passed, bounds_asked, state_asked, state_check, month_check}
 use Rattle.month_refusals.proofs.Accepted.{sound-state, state-passes}
-use Rattle.month_call.specs.declared.Outcome.{Outcome}
+use Rattle.month_state.specs.declared.Outcome.{Outcome}
 use Rattle.month_call.proofs.Laws.{accepted_moves, refusal_returns}
 use Rattle.month_demand3.specs.Calls.{Call, state_after, run_calls}
 use Rattle.kept_months.specs.Kept.{latest, take_asked, take_checked, take_back}
@@ -25,50 +26,48 @@ use Rattle.kept_demand3.specs.Acts.{Act, call, back, Field, after_call, after_ba
 use Rattle.kept_demand3.specs.Demand.{Lent}
 use Rattle.kept_demand3.proofs.Demand.{field-demand3}
 use Rattle.list_rows.specs.Rows.{land_rows}
-use Rattle.list_run.specs.declared.ListAnswer.{ListAnswer}
-use Rattle.list_run.specs.declared.ListAnswer.TheVariants as answers
+use Rattle.list_run.specs.Run.{ListAnswer}
 use Rattle.list_run.specs.Run.{months, before_months, list_checked, run}
 use Rattle.list_run.proofs.Months.{months-sound}
-use Rattle.spin_up.specs.declared.SpinOutcome.{SpinOutcome}
-use Rattle.spin_up.specs.SpinUp.{settles, year_answer, year_state, year_end, after_year, years, before_years, spin_checked, spin_up}
+use Rattle.spin_up.specs.SpinUp.{SpinAnswer, settles, year_answer, year_state, year_end, after_year, years, before_years, spin_checked, spin_up}
 use Rattle.spin_up.proofs.Laws.{year_sound}
 use Rattle.radiocarbon_laws.specs.Bounds.{StaysAccepted}
 
-call_stays : (s : State) (c : Call) (check : Check) → month_check s c.number c.entries ≡ check → state_check s ≡ Pass
-    → state_check (state_after s c) ≡ Pass
-call_stays s c Pass is h = state-passes _ (accepted_moves s c.number c.entries is).sound
-call_stays s c (Refuse refusal) is h =
-    subst (λ (o : Outcome). state_check o.state ≡ Pass) (sym (refusal_returns s c.number c.entries refusal is)) h
+call_stays : (s : State) (c : Call) (check : Check) → month_check s c.number c.entries ≡ check → state_check s ≡ Ok tt
+    → state_check (state_after s c) ≡ Ok tt
+call_stays s c (Ok _) is h = state-passes _ (accepted_moves s c.number c.entries is).sound
+call_stays s c (Err refusal) is h =
+    subst (λ (o : Outcome Answer State). state_check o.state ≡ Ok tt) (sym (refusal_returns s c.number c.entries refusal is)) h
 
-calls_stay : (s : State) → state_check s ≡ Pass → (calls : List Call) → state_check (run_calls s calls) ≡ Pass
+calls_stay : (s : State) → state_check s ≡ Ok tt → (calls : List Call) → state_check (run_calls s calls) ≡ Ok tt
 unfolding run_calls
 calls_stay s h [] = h
 calls_stay s h (c ∷ calls) =
     calls_stay (state_after s c) (call_stays s c (month_check s c.number c.entries) refl h) calls
 
-list_stays : (s : State) → state_check s ≡ Pass → (weather land : List ℤ) (out : List ℕ)
-    → state_check (run s weather land out).outcome.state ≡ Pass
+list_stays : (s : State) → state_check s ≡ Ok tt → (weather land : List ℤ) (out : List ℕ)
+    → state_check (run s weather land out).outcome.state ≡ Ok tt
 unfolding run
 list_stays s h weather land out = by_check (first_of (before_months s weather land (length out)))
   where
     by_check :
         (check : Check)
-        → state_check (list_checked check s out (months (land_rows land) weather land 0 s out)).outcome.state ≡ Pass
-    by_check Pass = months-sound (land_rows land) weather land 0 s out h
-    by_check (Refuse refusal) = h
+        → state_check (list_checked check s out (months (land_rows land) weather land 0 s out)).outcome.state ≡ Ok tt
+    by_check (Ok _) = months-sound (land_rows land) weather land 0 s out h
+    by_check (Err refusal) = h
 
 -- ---- with takings-back
 
 few_call : (s : State) (c : Call) (check : Check) → month_check s c.number c.entries ≡ check → s.kept ≤ kept_limit
     → (state_after s c).kept ≤ kept_limit
-few_call s c Pass is few = (accepted_moves s c.number c.entries is).sound.kept
-few_call s c (Refuse refusal) is few =
-    subst (λ (o : Outcome). o.state.kept ≤ kept_limit) (sym (refusal_returns s c.number c.entries refusal is)) few
+few_call s c (Ok _) is few = (accepted_moves s c.number c.entries is).sound.kept
+few_call s c (Err refusal) is few =
+    subst (λ (o : Outcome Answer State). o.state.kept ≤ kept_limit) (sym (refusal_returns s c.number c.entries refusal is)) few
 
 few_back : (s : State) (memory : List ℕ) (check : Check) → s.kept ≤ kept_limit → (take_checked check s memory).state.kept ≤ kept_limit
 unfolding latest state_from
-few_back s memory Pass few = omega arith
-few_back s memory (Refuse refusal) few = few
+few_back s memory (Ok _) few = omega arith
+few_back s memory (Err refusal) few = few
 
 few_acts : (f : Field) (acts : List Act) → f.state.kept ≤ kept_limit → (run_acts f acts).state.kept ≤ kept_limit
 unfolding run_acts take_back
@@ -82,8 +81,8 @@ check_aside : (s : State) → s.kept ≤ kept_limit → state_check s ≡ state_
 unfolding state_asked bounds_asked bounds_passed carbon_bounds_passed modern_above
 check_aside s few = rw (le-ltb kept_limit s.kept few)
 
-field_stays : (f : Field) → Lent f → f.state.kept ≡ 0 → state_check f.state ≡ Pass → (acts : List Act)
-    → state_check (run_acts f acts).state ≡ Pass
+field_stays : (f : Field) → Lent f → f.state.kept ≡ 0 → state_check f.state ≡ Ok tt → (acts : List Act)
+    → state_check (run_acts f acts).state ≡ Ok tt
 field_stays f lent none h acts =
     let months = remaining f acts in
     let stays = calls_stay f.state h months in
@@ -95,23 +94,23 @@ field_stays f lent none h acts =
 -- ---- spin-ups
 
 -- A sound state with the kept ones aside is sound.
-aside_stays : (s : State) → state_check s ≡ Pass → state_check (kept_aside s) ≡ Pass
+aside_stays : (s : State) → state_check s ≡ Ok tt → state_check (kept_aside s) ≡ Ok tt
 aside_stays s h = sym (check_aside s (sound-state s h).kept) ∙ h
 
-end_stays : (test : Bool) (count : ℕ) (s : State) (later : SpinOutcome) → state_check s ≡ Pass → state_check later.state ≡ Pass
-    → state_check (year_end test count s later).state ≡ Pass
+end_stays : (test : Bool) (count : ℕ) (s : State) (later : Outcome SpinAnswer State) → state_check s ≡ Ok tt → state_check later.state ≡ Ok tt
+    → state_check (year_end test count s later).state ≡ Ok tt
 end_stays true count s later h rest = aside_stays s h
 end_stays false count s later h rest = rest
 
 year_stays :
-    (answer : ListAnswer) (u s : State) (before : ℕ) (starting : State) (on : State → SpinOutcome) → state_check u ≡ Pass
-    → state_check starting ≡ Pass → state_check (on u).state ≡ Pass → state_check (after_year answer u s before starting on).state ≡ Pass
-year_stays answers.Finished u s before starting on h begun rest = end_stays (settles s u) (before + 1) u (on u) h rest
-year_stays (answers.Refused refusal place) u s before starting on h begun rest = begun
+    (answer : ListAnswer) (u s : State) (before : ℕ) (starting : State) (more : State → Outcome SpinAnswer State) → state_check u ≡ Ok tt
+    → state_check starting ≡ Ok tt → state_check (more u).state ≡ Ok tt → state_check (after_year answer u s before starting more).state ≡ Ok tt
+year_stays (Ok _) u s before starting more h begun rest = end_stays (settles s u) (before + 1) u (more u) h rest
+year_stays (Err e) u s before starting more h begun rest = begun
 
 years_stay :
-    (left : ℕ) (weather land : List ℤ) (before : ℕ) (starting s : State) → state_check starting ≡ Pass → state_check s ≡ Pass
-    → state_check (years left weather land before starting s).state ≡ Pass
+    (left : ℕ) (weather land : List ℤ) (before : ℕ) (starting s : State) → state_check starting ≡ Ok tt → state_check s ≡ Ok tt
+    → state_check (years left weather land before starting s).state ≡ Ok tt
 unfolding years
 years_stay zero weather land before starting s begun h = aside_stays s h
 years_stay (suc left) weather land before starting s begun h =
@@ -120,13 +119,13 @@ years_stay (suc left) weather land before starting s begun h =
     year_stays (year_answer weather land s) u s before starting (years left weather land (suc before) starting) sound begun
     (years_stay left weather land (suc before) starting u begun sound)
 
-spin_stays : (s : State) → state_check s ≡ Pass → (weather land : List ℤ) (allowed : ℕ) → state_check (spin_up s weather land allowed).state ≡ Pass
+spin_stays : (s : State) → state_check s ≡ Ok tt → (weather land : List ℤ) (allowed : ℕ) → state_check (spin_up s weather land allowed).state ≡ Ok tt
 unfolding spin_up
 spin_stays s h weather land allowed = by_check (first_of (before_years s weather land allowed))
   where
-    by_check : (check : Check) → state_check (spin_checked check s (years allowed weather land 0 s s)).state ≡ Pass
-    by_check Pass = years_stay allowed weather land 0 s s h h
-    by_check (Refuse refusal) = h
+    by_check : (check : Check) → state_check (spin_checked check s (years allowed weather land 0 s s)).state ≡ Ok tt
+    by_check (Ok _) = years_stay allowed weather land 0 s s h h
+    by_check (Err refusal) = h
 
 pub stays_accepted : StaysAccepted
 stays_accepted = record { calls = calls_stay; fields = field_stays; lists = list_stays; spins = spin_stays }

@@ -1,6 +1,7 @@
 -- Single month calls and takings-back on a field without modern grams, in its kept states neither, are those on the field, but for modern
 -- grams. A month keeps the same state but for these, in the same place, and a taking-back reads it from there; by induction over the list.
 -- Assumes nothing.
+use Rattle.std.specs.Prelude.{Ok, Err}
 use mathlib.Core.Path.{◌≡◌, refl, sym, ◌∙◌, ap, subst}
 use mathlib.Core.Bool.{Bool, true, false, cond}
 use mathlib.Core.List.{List, [], ◌∷◌, reverse, reverse_aux}
@@ -13,18 +14,15 @@ use Rattle.month_state.specs.declared.State.{State}
 use Rattle.month_state.specs.State.{kept_limit, kept_aside, with_kept}
 use Rattle.month_layouts.specs.Layouts.{kept_width, memory_width, pools_from, soil_from, state_from, kept_numbers}
 use Rattle.month_layouts.proofs.Layouts.{Four, put_back, put_apart}
-use Rattle.month_refusals.specs.declared.Check.{Check}
-use Rattle.month_refusals.specs.declared.Check.TheVariants.{Pass, Refuse}
+use Rattle.month_refusals.specs.Asked.{Check}
 use Rattle.month_refusals.specs.Asked.{first_of}
 use Rattle.month_refusals.specs.Refusals.{month_check}
-use Rattle.month_call.specs.declared.Answer.{Answer}
-use Rattle.month_call.specs.declared.Answer.TheVariants.{Done, Refused}
-use Rattle.month_call.specs.declared.Outcome.{Outcome}
+use Rattle.month_call.specs.Month.{Answer}
+use Rattle.month_state.specs.declared.Outcome.{Outcome}
 use Rattle.month_call.specs.Month.{month_call}
 use Rattle.month_call.proofs.Laws.{accepted_moves, refusal_returns}
 use Rattle.month_demand3.specs.Calls.{Call, state_after, is_done, accepts}
-use Rattle.kept_months.specs.declared.TakeOutcome.{TakeOutcome}
-use Rattle.kept_months.specs.Kept.{place_of, keep, keep_if, latest, take_asked, take_checked, take_back}
+use Rattle.kept_months.specs.Kept.{TakeAnswer, place_of, keep, keep_if, latest, take_asked, take_checked, take_back}
 use Rattle.kept_months.proofs.Laws.{keep-length}
 use Rattle.kept_months.proofs.Places.{read_at, keep_there}
 use Rattle.kept_demand3.specs.Acts.{Act, call, back, Field, after_call, after_back, after_act, run_acts, is_taken, takes, remain}
@@ -93,9 +91,9 @@ four_after : (s : State) (c : Call) → Four s → Four (state_after s c)
 four_after s c four = by_check (month_check s c.number c.entries) refl
   where
     by_check : (check : Check) → month_check s c.number c.entries ≡ check → Four (state_after s c)
-    by_check Pass is = let four = (accepted_moves s c.number c.entries is).four in record { pools = four.0; modern = four.1 }
-    by_check (Refuse refusal) is =
-        subst (λ (o : Outcome). Four o.state) (sym (refusal_returns s c.number c.entries refusal is)) four
+    by_check (Ok _) is = let four = (accepted_moves s c.number c.entries is).four in record { pools = four.0; modern = four.1 }
+    by_check (Err refusal) is =
+        subst (λ (o : Outcome Answer State). Four o.state) (sym (refusal_returns s c.number c.entries refusal is)) four
 
 module _ (f : Field) (other : List ℕ) (h : Alike f other) (c : Call) where
   abbrev other_after : List ℕ
@@ -107,19 +105,19 @@ module _ (f : Field) (other : List ℕ) (h : Alike f other) (c : Call) where
       by_answer :
           (answer : Answer)
           → Alike (record { state = state_after f.state c; memory = keep_if answer f.state f.memory }) (keep_if answer (state_without f.state) other)
-      by_answer (Done row) =
+      by_answer (Ok row) =
           record {
             four = four_after f.state c h.four;
             long = keep-length f.state f.memory ∙ h.long;
             other_long = keep-length (state_without f.state) other ∙ h.other_long;
             places = keep_places f other h;
           }
-      by_answer (Refused refusal) =
+      by_answer (Err refusal) =
           record { four = four_after f.state c h.four; long = h.long; other_long = h.other_long; places = h.places }
 
 -- ---- a taking-back
 
-abbrev take_without : TakeOutcome → TakeOutcome
+abbrev take_without : Outcome TakeAnswer State → Outcome TakeAnswer State
 take_without o = record { answer = o.answer; state = state_without o.state }
 
 module _ (f : Field) (other : List ℕ) (h : Alike f other) where
@@ -132,8 +130,8 @@ module _ (f : Field) (other : List ℕ) (h : Alike f other) where
   back_without = by_check (first_of (take_asked f.state))
     where
       by_check : (check : Check) → take_checked check (state_without f.state) other ≡ take_without (take_checked check f.state f.memory)
-      by_check Pass = λ i. record { answer = (take_checked Pass f.state f.memory).answer; state = latest_without i }
-      by_check (Refuse refusal) = refl
+      by_check (Ok _) = λ i. record { answer = (take_checked (Ok tt) f.state f.memory).answer; state = latest_without i }
+      by_check (Err refusal) = refl
 
   back_alike : Alike (after_back f) other
   unfolding take_back latest state_from soil_from pools_from
@@ -141,8 +139,8 @@ module _ (f : Field) (other : List ℕ) (h : Alike f other) where
       record { four = by_check (first_of (take_asked f.state)); long = h.long; other_long = h.other_long; places = h.places }
     where
       by_check : (check : Check) → Four (take_checked check f.state f.memory).state
-      by_check Pass = record { pools = refl; modern = refl }
-      by_check (Refuse refusal) = h.four
+      by_check (Ok _) = record { pools = refl; modern = refl }
+      by_check (Err refusal) = h.four
 
 -- ---- the list
 

@@ -1,6 +1,8 @@
 -- Lists of months without activities are the lists, but for modern grams, unless 21, or 10 for modern grams, refuses them. By induction over
 -- the months.
 -- Assumes nothing.
+use Rattle.month_refusals.specs.Asked.{◌on◌}
+use Rattle.std.specs.Prelude.{Ok, Err}
 use mathlib.Core.Path.{◌≡◌, refl, sym, ◌∙◌, ap}
 use mathlib.Core.Bool.{Bool, false}
 use mathlib.Core.List.{List}
@@ -10,22 +12,19 @@ use lib.IntN.{ℤ}
 use lib.ListN.{length}
 use Rattle.month_state.specs.declared.State.{State}
 use Rattle.month_state.specs.declared.Entries.{Entries}
-use Rattle.month_state.proofs.Tests.{either_false}
-use Rattle.month_refusals.specs.declared.Check.{Check}
-use Rattle.month_refusals.specs.declared.Check.TheVariants.{Pass, Refuse}
+use Rattle.std.proofs.lemmas.Bool.{or_parts}
+use Rattle.month_refusals.specs.Asked.{Check}
 use Rattle.month_refusals.specs.declared.Refusal.{Refusal}
 use Rattle.month_refusals.specs.Asked.{first_of}
-use Rattle.month_call.specs.declared.Outcome.{Outcome}
+use Rattle.month_state.specs.declared.Outcome.{Outcome}
 use Rattle.list_rows.specs.Rows.{land_rows, row_written, entries_at}
-use Rattle.list_run.specs.declared.ListAnswer.{ListAnswer}
-use Rattle.list_run.specs.declared.ListAnswer.TheVariants as answers
+use Rattle.list_run.specs.Run.{ListAnswer}
 use Rattle.list_run.specs.Run.{Left, refused_at, months, rows_asked, room_asked, before_months, list_checked, run}
-use Rattle.list_run.proofs.Laws.{goes_on, stops}
+use Rattle.list_run.proofs.Laws.{goes_on, stops, same_refused}
 use Rattle.list_run.proofs.Months as courses
 use Rattle.radiocarbon_laws.proofs.Rows.{rows-length, entries_without_lem}
 use Rattle.month_refusals.specs.Refusals.{soil_asked, bounds_asked, entries_check}
-use Rattle.month_call.specs.declared.Answer.TheVariants.{Refused}
-use Rattle.month_call.specs.Month.{outcome_of, list_month}
+use Rattle.month_call.specs.Month.{Answer, outcome_of, list_month}
 use Rattle.list_run.proofs.Months.{Course, course, place_in}
 use Rattle.radiocarbon_laws.specs.Without.{state_without, rows_without, outcome_without, left_without}
 use Rattle.radiocarbon_laws.specs.Calls.{by_modern}
@@ -37,22 +36,22 @@ use Rattle.radiocarbon_laws.proofs.Months.{others_found, bounds_other, list_mont
 
 -- No refusal by 21 ends a list.
 abbrev pub list_is21 : ListAnswer → Bool
-list_is21 answers.Finished = false
-list_is21 (answers.Refused refusal place) = is21 refusal
+list_is21 (Ok _) = false
+list_is21 (Err e) = is21 e.refusal
 
 -- A refused month returns the state that it was given.
-refused-state : (s : State) (e : Entries) {refusal : Refusal} → (list_month s e).answer ≡ Refused refusal → (list_month s e).state ≡ s
+refused-state : (s : State) (e : Entries) {refusal : Refusal} → (list_month s e).answer ≡ Err refusal → (list_month s e).state ≡ s
 unfolding list_month outcome_of
 refused-state s e {refusal} h = by_check (entries_check s e) h
   where
-    by_check : (check : Check) → (outcome_of check s e).answer ≡ Refused refusal → (outcome_of check s e).state ≡ s
-    by_check Pass h = absurd (let z : ◌≡◌ {A = ℕ} 0 1 = cc in omega arith)
-    by_check (Refuse reason) h = refl
+    by_check : (check : Check) → (outcome_of check s e).answer ≡ Err refusal → (outcome_of check s e).state ≡ s
+    by_check (Ok _) h = absurd (let z : ◌≡◌ {A = ℕ} 0 1 = cc in omega arith)
+    by_check (Err reason) h = refl
 
 module _ (weather land : List ℤ) where
   -- A month that 21 doesn't refuse.
   step :
-      (j : ℕ) (s : State) → ((r : Refusal) → (list_month s (entries_at weather land j)).answer ≡ Refused r → is21 r ≡ false)
+      (j : ℕ) (s : State) → ((r : Refusal) → (list_month s (entries_at weather land j)).answer ≡ Err r → is21 r ≡ false)
       → list_month (state_without s) (entries_at weather (rows_without land) j) ≡ outcome_without (list_month s (entries_at weather land j))
   step j s h = rw (entries_without_lem weather land j) (list_month_without s (entries_at weather land j) h)
 
@@ -64,39 +63,39 @@ module _ (weather land : List ℤ) where
   months_alone courses.finished h = refl
   months_alone (courses.refused {left} {j} {s} {out} refusal e) h =
       let other = step j s (λ r is. let same : refusal ≡ r = cc in ap is21 (sym same) ∙ h) in
-      stops left weather (rows_without land) j (state_without s) out refusal (ap (λ (o : Outcome). o.answer) other ∙ e)
-      ∙ ap (λ (o : Outcome). refused_at refusal (j + 1) o.state out) other
+      stops left weather (rows_without land) j (state_without s) out refusal (ap (λ (o : Outcome Answer State). o.answer) other ∙ e)
+      ∙ ap (λ (o : Outcome Answer State). refused_at refusal (j + 1) o.state out) other
   months_alone (courses.month {left} {j} {s} {out} row e later) h =
       let other = step j s (λ r is. absurd (let z : ◌≡◌ {A = ℕ} 0 1 = cc in omega arith)) in
-      goes_on left weather (rows_without land) j (state_without s) out row (ap (λ (o : Outcome). o.answer) other ∙ e)
-      ∙ ap (λ (o : Outcome). months left weather (rows_without land) (suc j) o.state (row_written out j row)) other
+      goes_on left weather (rows_without land) j (state_without s) out row (ap (λ (o : Outcome Answer State). o.answer) other ∙ e)
+      ∙ ap (λ (o : Outcome Answer State). months left weather (rows_without land) (suc j) o.state (row_written out j row)) other
       ∙ months_alone later h
 
   -- The months before one that is refused, run alone, leave what the list left.
   before-refused :
       {left j : ℕ} {s : State} {out : List ℕ} {end : Left} {refusal : Refusal} (before : ℕ) → Course weather land left j s out end
-      → end.outcome.answer ≡ answers.Refused refusal (j + before + 1)
+      → end.outcome.answer ≡ Err (refusal on (j + before + 1))
       → months before weather land j s out
-      ≡ record { outcome = record { answer = answers.Finished; state = end.outcome.state }; output = end.output }
+      ≡ record { outcome = record { answer = Ok tt; state = end.outcome.state }; output = end.output }
   unfolding months
   before-refused before courses.finished h = absurd (let z : ◌≡◌ {A = ℕ} 0 1 = cc in omega arith)
   before-refused {j} {s} {out} before (courses.refused reason e) h =
-      let at : j + 1 ≡ j + before + 1 = cc in
+      let at : j + 1 ≡ j + before + 1 = (same_refused h).1 in
       let none : before ≡ 0 = omega arith in
-      rw none (ap (λ (t : State). record { outcome = record { answer = answers.Finished; state = t }; output = out })
+      rw none (ap (λ (t : State). record { outcome = record { answer = Ok tt; state = t }; output = out })
       (sym (refused-state s (entries_at weather land j) e)))
   before-refused {j} {s} {out} zero (courses.month row e later) h = absurd (omega (arith, (place_in later h).0))
   before-refused {j} {s} {out} {refusal = refusal} (suc before) (courses.month row e later) h =
       let further : j + suc before + 1 ≡ suc j + before + 1 = omega arith in
       goes_on before weather land j s out row e
-      ∙ before-refused {refusal = refusal} before later (h ∙ ap (answers.Refused refusal) further)
+      ∙ before-refused {refusal = refusal} before later (h ∙ ap {B = ListAnswer} (λ (n : ℕ). Err (refusal on n)) further)
 
 -- ---- lists
 
 -- A refusal that is not by 21 or 10 for modern grams is not by 21.
 list_not_21 : (s : State) (answer : ListAnswer) → list_by_modern s answer ≡ false → list_is21 answer ≡ false
-list_not_21 s answers.Finished h = refl
-list_not_21 s (answers.Refused refusal place) h = (either_false (is21 refusal) _ h).0
+list_not_21 s (Ok _) h = refl
+list_not_21 s (Err e) h = (or_parts (is21 e.refusal) _ h).0
 
 module _ (s : State) (weather land : List ℤ) (out : List ℕ) where
   -- What is asked before the months goes by the numbers' lengths, ..
@@ -117,13 +116,13 @@ module _ (s : State) (weather land : List ℤ) (out : List ℕ) where
       → list_checked (first_of (before_months (state_without s) weather (rows_without land) (length out))) (state_without s) out
       (months (land_rows (rows_without land)) weather (rows_without land) 0 (state_without s) out)
       ≡ left_without (list_checked check s out (months (land_rows land) weather land 0 s out))
-  by_check Pass is h =
+  by_check (Ok _) is h =
       let asked =
       ap first_of before_same
       ∙ first_less (by_modern s) before_less (λ r refuses. absurd (let z : ◌≡◌ {A = ℕ} 0 1 = cc in omega arith)) ∙ is in
       rw (asked, rows-length land)
       (months_alone weather land (course weather land (land_rows land) 0 s out) (list_not_21 s (months (land_rows land) weather land 0 s out).outcome.answer h))
-  by_check (Refuse refusal) is h =
+  by_check (Err refusal) is h =
       let asked =
       ap first_of before_same
       ∙ first_less (by_modern s) before_less (λ r refuses. let same : refusal ≡ r = cc in ap (by_modern s) (sym same) ∙ h) ∙ is in
@@ -132,10 +131,10 @@ module _ (s : State) (weather land : List ℤ) (out : List ℕ) where
   -- A list that is refused at a month has passed what is asked before.
   has-run :
       (check : Check) (refusal : Refusal) (before : ℕ)
-      → (list_checked check s out (months (land_rows land) weather land 0 s out)).outcome.answer ≡ answers.Refused refusal (suc before)
+      → (list_checked check s out (months (land_rows land) weather land 0 s out)).outcome.answer ≡ Err (refusal on (suc before))
       → list_checked check s out (months (land_rows land) weather land 0 s out) ≡ months (land_rows land) weather land 0 s out
-  has-run Pass refusal before h = refl
-  has-run (Refuse reason) refusal before h = absurd (let z : ◌≡◌ {A = ℕ} 0 (suc before) = cc in omega arith)
+  has-run (Ok _) refusal before h = refl
+  has-run (Err reason) refusal before h = absurd (let z : ◌≡◌ {A = ℕ} 0 (suc before) = (same_refused h).1 in omega arith)
 
   pub list_alone : CarbonOfList s weather land out
   unfolding run
@@ -148,13 +147,13 @@ module _ (s : State) (weather land : List ℤ) (out : List ℕ) where
             let place : suc before ≡ 0 + before + 1 = omega arith in
             let until =
             before-refused weather land before all
-            (ap (λ (left : Left). left.outcome.answer) (sym ran) ∙ h ∙ ap (answers.Refused refusal) place) in
+            (ap (λ (left : Left). left.outcome.answer) (sym ran) ∙ h ∙ ap {B = ListAnswer} (λ (n : ℕ). Err (refusal on n)) place) in
             months_alone weather land (course weather land before 0 s out) (ap (λ (left : Left). list_is21 left.outcome.answer) until)
             ∙ ap left_without until
             ∙ ap
             (λ (left : Left).
             record {
-              outcome = record { answer = answers.Finished; state = state_without left.outcome.state };
+              outcome = record { answer = Ok tt; state = state_without left.outcome.state };
               output = left.output;
             })
             (sym ran);
@@ -181,10 +180,10 @@ never_list s weather land out =
     (others_found (state_without s) (before_months (state_without s) weather (rows_without land) (length out)) (rw (bounds_other s)))
   where
     by_check :
-        (check : Check) → ((r : Refusal) → check ≡ Refuse r → by_modern (state_without s) r ≡ false)
+        (check : Check) → ((r : Refusal) → check ≡ Err r → by_modern (state_without s) r ≡ false)
         → list_by_modern (state_without s)
         (list_checked check (state_without s) out (months (land_rows (rows_without land)) weather (rows_without land) 0 (state_without s) out)).outcome.answer
         ≡ false
-    by_check Pass h =
+    by_check (Ok _) h =
         months_never (state_without s) weather land (course weather (rows_without land) (land_rows (rows_without land)) 0 (state_without s) out)
-    by_check (Refuse refusal) h = h refusal refl
+    by_check (Err refusal) h = h refusal refl

@@ -1,6 +1,7 @@
 -- A month without activities is the month, but for its modern grams, unless 21, or 10 for modern grams, refuses it: what is asked is the
 -- same but there, and what is found gives the same row and the same carbon.
 -- Assumes nothing.
+use Rattle.std.specs.Prelude.{Ok, Err}
 use mathlib.Core.Path.{◌≡◌, refl, sym, ◌∙◌, ap}
 use mathlib.Core.Bool.{Bool, true, false, not, ◌||◌}
 use mathlib.Core.List.{List, [], ◌∷◌}
@@ -14,9 +15,8 @@ use Rattle.step_decay.specs.Rates.{survivals}
 use Rattle.step_pools.specs.Pools.{total}
 use Rattle.month_state.specs.declared.State.{State}
 use Rattle.month_state.specs.declared.Entries.{Entries}
-use Rattle.month_state.proofs.Tests.{left-true}
-use Rattle.month_refusals.specs.declared.Check.{Check}
-use Rattle.month_refusals.specs.declared.Check.TheVariants.{Pass, Refuse}
+use Rattle.std.proofs.lemmas.Bool.{or_left}
+use Rattle.month_refusals.specs.Asked.{Check}
 use Rattle.month_refusals.specs.declared.Refusal.{Refusal}
 use Rattle.month_refusals.specs.declared.Refusal.TheVariants.{Bounds, Activity}
 use Rattle.month_refusals.specs.Asked.{refusal_number, Asked, ◌if◌, given, first_of}
@@ -25,7 +25,6 @@ use Rattle.month_refusals.specs.Refusals.{cover_outside, additions_outside, acti
 use Rattle.month_refusals.specs.Refusals.{soil_asked, bounds_asked, state_asked, turn_asked, weather_asked, land_asked, carbon_asked, entries_asked, month_asked}
 use Rattle.month_refusals.specs.Refusals.{entries_check, month_check}
 use Rattle.month_refusals.proofs.First.{all_own, finds_own}
-use Rattle.month_call.specs.declared.Answer.TheVariants.{Refused}
 use Rattle.month_call.specs.Month.{deficit_after, rate_after, pools_after, gas_of, modern_after, next_deficit, next_rate, moved_to, row_of, outcome_of, month_call, list_month}
 use Rattle.radiocarbon_laws.specs.Without.{no_grams, state_without, entries_without, outcome_without}
 use Rattle.radiocarbon_laws.specs.Calls.{by_modern, answer_by_modern}
@@ -51,22 +50,22 @@ clash e = let z : ◌≡◌ {A = ℕ} 0 1 = cc in omega arith
 -- What the first finds, and isn't left out, the second finds too.
 module _ (left_out : Refusal → Bool) where
   after_same :
-      (test : Bool) (refusal : Refusal) (x y : Check) → (((r : Refusal) → x ≡ Refuse r → left_out r ≡ false) → y ≡ x)
-      → ((r : Refusal) → given test refusal x ≡ Refuse r → left_out r ≡ false) → given test refusal y ≡ given test refusal x
+      (test : Bool) (refusal : Refusal) (x y : Check) → (((r : Refusal) → x ≡ Err r → left_out r ≡ false) → y ≡ x)
+      → ((r : Refusal) → given test refusal x ≡ Err r → left_out r ≡ false) → given test refusal y ≡ given test refusal x
   after_same true refusal x y rest h = refl
   after_same false refusal x y rest h = rest h
 
   after_less :
       (a b : Bool) (refusal : Refusal) (x y : Check) → (b ≡ true → a ≡ true) → (a ≡ true → b ≡ false → left_out refusal ≡ true)
-      → (((r : Refusal) → x ≡ Refuse r → left_out r ≡ false) → y ≡ x)
-      → ((r : Refusal) → given a refusal x ≡ Refuse r → left_out r ≡ false) → given b refusal y ≡ given a refusal x
+      → (((r : Refusal) → x ≡ Err r → left_out r ≡ false) → y ≡ x)
+      → ((r : Refusal) → given a refusal x ≡ Err r → left_out r ≡ false) → given b refusal y ≡ given a refusal x
   after_less true true refusal x y implied out rest h = refl
   after_less true false refusal x y implied out rest h = absurd (clash (sym (h refusal refl) ∙ out refl refl))
   after_less false true refusal x y implied out rest h = absurd (clash (implied refl))
   after_less false false refusal x y implied out rest h = rest h
 
   pub first_less :
-      {xs ys : List Asked} → Less left_out xs ys → ((r : Refusal) → first_of xs ≡ Refuse r → left_out r ≡ false)
+      {xs ys : List Asked} → Less left_out xs ys → ((r : Refusal) → first_of xs ≡ Err r → left_out r ≡ false)
       → first_of ys ≡ first_of xs
   unfolding first_of
   first_less end h = refl
@@ -97,7 +96,7 @@ module _ (s : State) where
       → Less (by_modern s) ((Bounds if bounds_passed s) ∷ xs) ((Bounds if bounds_passed (state_without s)) ∷ ys)
   unfolding bounds_passed
   bounds_less later =
-      less (λ h. left-true _ (sym bounds_are ∙ h)) (λ h h'. not_of (sym bounds_are ∙ h')) later
+      less (λ h. or_left _ _ (sym bounds_are ∙ h)) (λ h h'. not_of (sym bounds_are ∙ h')) later
 
   -- 21 asks nothing of an activity of 0.
   activity_less :
@@ -125,34 +124,34 @@ module _ (s : State) where
 
     outcome-same : (check : Check) → outcome_of check (state_without s) (entries_without e) ≡ outcome_without (outcome_of check s e)
     unfolding outcome_of moved_to row_of pools_after gas_of modern_after next_deficit deficit_after next_rate rate_after
-    outcome-same Pass =
+    outcome-same (Ok _) =
         ap
         (λ (modern : List Grams).
         record {
-          answer = (outcome_of Pass s e).answer;
+          answer = (outcome_of (Ok tt) s e).answer;
           state =
               record {
-                soil = (outcome_of Pass s e).state.soil;
-                deficit = (outcome_of Pass s e).state.deficit;
-                months = (outcome_of Pass s e).state.months;
-                co2 = (outcome_of Pass s e).state.co2;
+                soil = (outcome_of (Ok tt) s e).state.soil;
+                deficit = (outcome_of (Ok tt) s e).state.deficit;
+                months = (outcome_of (Ok tt) s e).state.months;
+                co2 = (outcome_of (Ok tt) s e).state.co2;
                 modern = modern;
-                kept = (outcome_of Pass s e).state.kept;
+                kept = (outcome_of (Ok tt) s e).state.kept;
               };
         })
         none_after
-    outcome-same (Refuse refusal) = refl
+    outcome-same (Err refusal) = refl
 
     -- ---- the month
 
     -- A check's refusal is the answer's.
     found-refused :
         (left_out : Refusal → Bool) (check : Check)
-        → ((r : Refusal) → (outcome_of check s e).answer ≡ Refused r → left_out r ≡ false)
-        → (r : Refusal) → check ≡ Refuse r → left_out r ≡ false
+        → ((r : Refusal) → (outcome_of check s e).answer ≡ Err r → left_out r ≡ false)
+        → (r : Refusal) → check ≡ Err r → left_out r ≡ false
     unfolding outcome_of
-    found-refused left_out Pass h r is = absurd (let z : ◌≡◌ {A = ℕ} 0 1 = cc in omega arith)
-    found-refused left_out (Refuse refusal) h r is = let same : refusal ≡ r = cc in h r (ap Refused same)
+    found-refused left_out (Ok _) h r is = absurd (let z : ◌≡◌ {A = ℕ} 0 1 = cc in omega arith)
+    found-refused left_out (Err refusal) h r is = let same : refusal ≡ r = cc in h r (ap Err same)
 
     pub month_without :
         (number : ℕ) → answer_by_modern s (month_call s number e).answer ≡ false
@@ -165,7 +164,7 @@ module _ (s : State) where
 
     -- Of a list's month 10 is not asked.
     pub list_month_without :
-        ((r : Refusal) → (list_month s e).answer ≡ Refused r → is21 r ≡ false)
+        ((r : Refusal) → (list_month s e).answer ≡ Err r → is21 r ≡ false)
         → list_month (state_without s) (entries_without e) ≡ outcome_without (list_month s e)
     unfolding list_month
     list_month_without h =
@@ -182,7 +181,7 @@ not-true false h = refl
 abbrev pub OthersAsked : State → List Asked → Type 0
 OthersAsked s asked = all_own (λ r. not (by_modern s r)) asked ≡ true
 
-pub others_found : (s : State) (asked : List Asked) → OthersAsked s asked → (r : Refusal) → first_of asked ≡ Refuse r → by_modern s r ≡ false
+pub others_found : (s : State) (asked : List Asked) → OthersAsked s asked → (r : Refusal) → first_of asked ≡ Err r → by_modern s r ≡ false
 others_found s asked others r h = not-true (by_modern s r) (finds_own (λ r. not (by_modern s r)) asked others h)
 
 entries_others : (s t : State) (e : Entries) → OthersAsked s (entries_asked t (entries_without e))
@@ -211,18 +210,18 @@ module _ (s : State) where
       (others_found (state_without s) (month_asked (state_without s) number (entries_without e)) (month_others number e))
     where
       by_check :
-          (check : Check) → ((r : Refusal) → check ≡ Refuse r → by_modern (state_without s) r ≡ false)
+          (check : Check) → ((r : Refusal) → check ≡ Err r → by_modern (state_without s) r ≡ false)
           → answer_by_modern (state_without s) (outcome_of check (state_without s) (entries_without e)).answer ≡ false
-      by_check Pass h = refl
-      by_check (Refuse refusal) h = h refusal refl
+      by_check (Ok _) h = refl
+      by_check (Err refusal) h = h refusal refl
 
 -- A month that is refused in a list.
 pub list_month_never :
-    (s t : State) (e : Entries) (r : Refusal) → (list_month t (entries_without e)).answer ≡ Refused r → by_modern s r ≡ false
+    (s t : State) (e : Entries) (r : Refusal) → (list_month t (entries_without e)).answer ≡ Err r → by_modern s r ≡ false
 unfolding list_month outcome_of
 list_month_never s t e r h =
     others_found s (entries_asked t (entries_without e)) (entries_others s t e) r (by_check (entries_check t (entries_without e)) h)
   where
-    by_check : (check : Check) → (outcome_of check t (entries_without e)).answer ≡ Refused r → check ≡ Refuse r
-    by_check Pass h = absurd (let z : ◌≡◌ {A = ℕ} 0 1 = cc in omega arith)
-    by_check (Refuse reason) h = cc
+    by_check : (check : Check) → (outcome_of check t (entries_without e)).answer ≡ Err r → check ≡ Err r
+    by_check (Ok _) h = absurd (let z : ◌≡◌ {A = ℕ} 0 1 = cc in omega arith)
+    by_check (Err reason) h = cc

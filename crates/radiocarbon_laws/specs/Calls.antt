@@ -1,13 +1,13 @@
 -- "Up to the first refusal by 21, or by 10 for modern grams, the carbon rows and their balance are
 -- those of the same list without activities" (change 2026-04 of document 02): of single month
 -- calls.
+use Rattle.std.specs.Prelude.{Ok, Err}
 use Rattle.std.specs.Prelude.{◌≡◌, Bool, false, not, ◌&&◌, ◌||◌, List, eqb}
 use Rattle.month_state.specs.declared.State.{State}
 use Rattle.month_refusals.specs.declared.Refusal.{Refusal}
 use Rattle.month_refusals.specs.Asked.{refusal_number}
 use Rattle.month_refusals.specs.Refusals.{carbon_bounds_passed}
-use Rattle.month_call.specs.declared.Answer.{Answer}
-use Rattle.month_call.specs.declared.Answer.TheVariants.{Done, Refused}
+use Rattle.month_call.specs.Month.{Answer}
 use Rattle.month_call.specs.Month.{month_call}
 use Rattle.month_demand3.specs.Calls.{Call, state_after, run_calls, accepted_calls, added_carbon}
 use Rattle.radiocarbon_laws.specs.Along.{answers_along, up_to, none_stops, Begins}
@@ -22,8 +22,8 @@ by_modern s refusal =
     || (eqb (refusal_number refusal) 10 && not (carbon_bounds_passed s))
 
 abbrev pub answer_by_modern : State → Answer → Bool
-answer_by_modern s (Done row) = false
-answer_by_modern s (Refused refusal) = by_modern s refusal
+answer_by_modern s (Ok row) = false
+answer_by_modern s (Err refusal) = by_modern s refusal
 
 -- What a call answers, its row or its refusal, and whether it is refused so.
 abbrev pub answer_of : State → Call → Answer

@@ -1,20 +1,21 @@
 -- The same of spin-ups (document 01), whose years are lists of twelve months.
+use Rattle.std.specs.Prelude.{Ok, Err}
 use Rattle.std.specs.Prelude.{◌≡◌, Bool, false, List, ℕ, ℤ}
 use Rattle.month_state.specs.declared.State.{State}
-use Rattle.spin_up.specs.declared.SpinAnswer.{SpinAnswer}
-use Rattle.spin_up.specs.declared.SpinAnswer.TheVariants.{Settled, Unsettled, Refused}
-use Rattle.spin_up.specs.declared.SpinOutcome.{SpinOutcome}
+use Rattle.spin_up.specs.SpinUp.{SpinAnswer}
+use Rattle.spin_up.specs.declared.Years.TheVariants.{Settled, Unsettled}
+use Rattle.month_state.specs.declared.Outcome.{Outcome}
 use Rattle.spin_up.specs.SpinUp.{spin_up}
 use Rattle.radiocarbon_laws.specs.Without.{state_without, rows_without}
 use Rattle.radiocarbon_laws.specs.Calls.{by_modern}
 
 abbrev pub spin_by_modern : State → SpinAnswer → Bool
-spin_by_modern s (Settled years) = false
-spin_by_modern s (Unsettled years) = false
-spin_by_modern s (Refused refusal place) = by_modern s refusal
+spin_by_modern s (Ok (Settled years)) = false
+spin_by_modern s (Ok (Unsettled years)) = false
+spin_by_modern s (Err e) = by_modern s e.refusal
 
 -- What a spin-up comes to, without modern grams.
-abbrev pub spin_without : SpinOutcome → SpinOutcome
+abbrev pub spin_without : Outcome SpinAnswer State → Outcome SpinAnswer State
 spin_without o = record { answer = o.answer; state = state_without o.state }
 
 -- One that is not refused so settles or not after the same years, and reaches the same state, as

@@ -1,12 +1,13 @@
 -- Calls and lists "without activities" (change 2026-04 of document 02): no modern grams in the
 -- state, and 0 for the activity of every row. What is left is carbon alone.
+use Rattle.month_call.specs.Month.{Answer}
 use Rattle.std.specs.Prelude.{List, [], ◌∷◌, ℕ, zero, suc, ℤ, pos}
 use Rattle.number_units.specs.declared.Grams.{Grams}
 use Rattle.step_pools.specs.Pools.{grams}
 use Rattle.month_state.specs.declared.State.{State}
 use Rattle.month_state.specs.declared.Land.{Land}
 use Rattle.month_state.specs.declared.Entries.{Entries}
-use Rattle.month_call.specs.declared.Outcome.{Outcome}
+use Rattle.month_state.specs.declared.Outcome.{Outcome}
 use Rattle.month_demand3.specs.Calls.{Call}
 use Rattle.list_run.specs.Run.{Left}
 
@@ -53,7 +54,7 @@ abbrev pub rows_without : List ℤ → List ℤ
 rows_without land = after_staying 3 land
 
 -- What a call and a list leave, without modern grams.
-abbrev pub outcome_without : Outcome → Outcome
+abbrev pub outcome_without : Outcome Answer State → Outcome Answer State
 outcome_without o = record { answer = o.answer; state = state_without o.state }
 
 abbrev pub left_without : Left → Left

@@ -1,13 +1,16 @@
 -- The radiocarbon report on a state, change 2026-04 of document 02: "Report for a pool or for all
 -- five: delta in hundredths", "and the smallest whole age".
+use Rattle.std.specs.Prelude.{Result}
+use Rattle.month_refusals.specs.declared.Refusal.{Refusal}
+use Rattle.radiocarbon_report.specs.declared.Radiocarbon.{Radiocarbon}
+use Rattle.std.specs.Prelude.{Ok, Err}
 use Rattle.std.specs.Prelude.{◌≡◌, List, [], ◌∷◌, ◌++◌, ℕ, ◌+◌, ◌*◌, ◌/◌, eqb, ℤ, pos, ◌-ℤ◌}
 use Rattle.step_pools.specs.Pools.{grams_at, total}
 use Rattle.step_modern.specs.Modern.{modern_grams, inert_activity}
 use Rattle.month_state.specs.declared.State.{State}
 use Rattle.month_state.specs.State.{five_pools}
 use Rattle.month_refusals.specs.declared.NumberAndPlace.{NumberAndPlace}
-use Rattle.month_refusals.specs.declared.Check.{Check}
-use Rattle.month_refusals.specs.declared.Check.TheVariants.{Pass, Refuse}
+use Rattle.month_refusals.specs.Asked.{Check}
 use Rattle.month_refusals.specs.declared.Refusal.TheVariants.{NoCarbon}
 use Rattle.month_refusals.specs.Asked.{Asked, ◌if◌, first_of, Found, nothing, refused}
 use Rattle.month_refusals.specs.Asked.{number_and_place}
@@ -17,8 +20,10 @@ use Rattle.radiocarbon_age.specs.Age.{age_of, Means}
 use Rattle.radiocarbon_report.specs.declared.Subject.{Subject}
 use Rattle.radiocarbon_report.specs.declared.Subject.TheVariants.{Dpm, Rpm, Bio, Hum, Iom}
 use Rattle.radiocarbon_report.specs.declared.Subject.TheVariants.{AllFive}
-use Rattle.radiocarbon_report.specs.declared.ReportAnswer.{ReportAnswer}
-use Rattle.radiocarbon_report.specs.declared.ReportAnswer.TheVariants.{Given, Refused}
+
+-- A report's answer: delta with the age, or why it is refused.
+abbrev pub ReportAnswer : Type 0
+ReportAnswer = Result Radiocarbon Refusal
 
 -- ---- what is reported on
 
@@ -57,27 +62,19 @@ report_asked s subject = state_asked s ++ ((NoCarbon if eqb (carbon_of subject s
 -- Delta and the age of so many modern grams in so much carbon. Delta stands beside "older" and
 -- "newer" too.
 abbrev pub report_on : ℕ → ℕ → ReportAnswer
-report_on modern carbon = Given (delta modern carbon) (age_of modern carbon)
+report_on modern carbon = Ok (record { delta = delta modern carbon; age = age_of modern carbon })
 
 abbrev pub report_checked : Check → ReportAnswer → ReportAnswer
-report_checked Pass given = given
-report_checked (Refuse refusal) given = Refused refusal
+report_checked (Ok _) given = given
+report_checked (Err refusal) given = Err refusal
 
 unfoldable pub report : State → Subject → ReportAnswer
 report s subject =
     report_checked (first_of (report_asked s subject))
     (report_on (modern_of subject s) (carbon_of subject s))
 
--- What its answer says is found, and the papers' number and place of it: a refusal has the place 0.
-abbrev pub report_found : ReportAnswer → Found
-report_found (Given delta age) = nothing
-report_found (Refused refusal) = refused refusal 0
-
-abbrev pub report_told : ReportAnswer → NumberAndPlace
-report_told answer = number_and_place (report_found answer)
-
 -- What the age of a report says: of the ages that are tried it is the one that does it, and no
 -- smaller one does.
 pub record AgeMeans (s : State) (subject : Subject) (answer : ReportAnswer) : Type 0 where
-  pub age : (delta : ℤ) (age : Age) → answer ≡ Given delta age
-      → Means (modern_of subject s) (carbon_of subject s) age
+  pub age : (given : Radiocarbon) → answer ≡ Ok given
+      → Means (modern_of subject s) (carbon_of subject s) given.age

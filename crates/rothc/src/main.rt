@@ -3,12 +3,13 @@
 // as ./rothc does, it writes the exit status of ./rothc to descriptor 3, as a digit.
 #![tactic(auto)]
 
-ghost use Rattle.std.specs.Prelude.{◌≡◌, ◌≤◌, ◌<◌, length, IfOk};
+ghost use Rattle.std.specs.Prelude.{◌≡◌, ◌<◌, ◌≤◌, false, true, length, IfOk, MatchResult};
 ghost use Rattle.book_report.specs.Report.{book_refused};
-ghost use Rattle.rothc.specs.Status.{status_of};
+ghost use Rattle.rothc.specs.Status.{status_number, status_of};
 
 use io::write_all;
 use std::env::{Env, FillError};
+use std::fmt;
 use std::io::{Error, ErrorKind, Print, Read};
 
 const STATUS_FILENO: i32 = 3;
@@ -20,149 +21,141 @@ const TRIES: u64 = 1_000_000_000;
 // How many times the status is handed over, where the answer doesn't say why it was not taken.
 const STATUS_TRIES: u64 = 1_000;
 
-// Whether a read or a write was interrupted by a signal before it moved a byte.
-fn interrupted(got: &Result<usize, Error>) -> bool {
-    match got {
-        Ok(_) => false,
-        Err(e) => e.kind() == ErrorKind::Interrupted,
-    }
-}
-
-// Reads once, and again after a signal. No byte comes at the end of the input.
-fn read_once<R: Read>(input: &mut R, part: &mut [u8]) -> Result<usize, Error>
-    ensures { IfOk result (λ n. n ≤ length part.new) }
-{
-    let mut got = input.read(part);
-    for _ in 0..TRIES {
-        if !interrupted(&got) {
-            break;
-        }
-        got = input.read(part);
-    }
-    got
-}
-
-// Reads to the end of the input, in pieces of any length, or until the slice is full.
+// Reads to the end of the input, in pieces of any length, or until the slice is full. What was read
+// is counted, since that is what it gives.
 fn read_book<R: Read>(input: &mut R, book: &mut [u8]) -> Result<usize, Error>
     ensures { IfOk result (λ n. n ≤ length book.new) }
 {
-    let mut length: usize = 0;
+    let mut length = 0;
+    let mut tries = TRIES;
     while length < book.len() {
-        let piece = read_once(input, &mut book[length..])?;
-        if piece == 0 {
-            break;
+        match input.read(&mut book[length..]) {
+            Ok(0) => break,
+            Ok(piece) => {
+                length += piece;
+                tries = TRIES;
+            }
+            Err(e) if e.kind() == ErrorKind::Interrupted && 0 < tries => tries -= 1,
+            Err(e) => return Err(e),
         }
-        length += piece;
     }
     Ok(length)
 }
 
-// Writes once, and again after a signal. Gives how many bytes were taken.
-fn write_once<W: Print>(out: &W, part: &[u8]) -> Result<usize, Error>
-    ensures { IfOk result (λ n. n ≤ length part.now) }
-{
-    let mut got = out.write_some(part);
-    for _ in 0..TRIES {
-        if !interrupted(&got) {
-            break;
-        }
-        got = out.write_some(part);
-    }
-    got
-}
-
 // Writes all of a text, in pieces of any length, or fails. A write that takes nothing is a failure.
 fn write_whole<W: Print>(out: &W, text: &[u8]) -> Result<(), Error> {
-    let mut done: usize = 0;
-    while done < text.len() {
-        let taken = write_once(out, &text[done..])?;
-        if taken == 0 {
-            return Err(Error::from(ErrorKind::WriteZero));
+    let mut left = text;
+    let mut tries = TRIES;
+    while !left.is_empty() {
+        match out.write_some(left) {
+            Ok(0) => return Err(Error::from(ErrorKind::WriteZero)),
+            Ok(taken) => {
+                left = &left[taken..];
+                tries = TRIES;
+            }
+            Err(e) if e.kind() == ErrorKind::Interrupted && 0 < tries => tries -= 1,
+            Err(e) => return Err(e),
         }
-        done += taken;
     }
     Ok(())
 }
 
-// The exit status, by whether an output was written whole and whether it is a refusal.
-fn status(whole: bool, refused: bool) -> u8
-    ensures { result ≡ status_of whole refused }
-{
-    if whole {
-        if refused { 1 } else { 0 }
-    } else {
-        2
+// What failed, and why.
+#[derive(Drop)]
+enum Fault {
+    Input(Error),
+    Output(Error),
+}
+
+impl fmt::Display for Fault {
+    fn fmt<W: fmt::Write>(&self, f: &mut fmt::Formatter<W>) -> fmt::Result {
+        match self {
+            Fault::Input(why) => write!(f, "standard input: {why}"),
+            Fault::Output(why) => write!(f, "standard output: {why}"),
+        }
     }
 }
 
 // Says on standard error what failed, in the system's words, which end where its number begins.
-fn say(rt: &HostRuntime, what: &str, why: Error) -> Result<(), Error> {
-    let mut words = format!(in rt.alloc(); "rothc: {what}: {why}")?;
+fn say(rt: &HostRuntime, fault: &Fault) -> Result<(), Error> {
+    let mut words = format!(in rt.alloc(); "rothc: {fault}")?;
     if let Some(end) = words.as_str().find(" (os error") {
         words.truncate(end);
     }
     eprintln!(rt; "{words}")
 }
 
-// Writes all of a text to standard output, and gives whether all of it was taken. Where it was not,
-// that is said.
-fn wrote(rt: &HostRuntime, text: &[u8]) -> bool {
-    match write_whole(rt, text) {
-        Ok(()) => true,
-        Err(why) => {
-            let _said = say(rt, "standard output", why);
-            false
-        }
-    }
-}
-
-// What running a book came to: whether its output was written whole, and the exit status.
-#[derive(Clone, Copy)]
-struct Ran {
-    whole: bool,
-    status: u8,
-}
-
-// Runs a book and writes its output.
-fn run(rt: &HostRuntime, book: &[u8]) -> Ran
-    ensures { result.status ≡ status_of result.whole (book_refused book.now) }
+// Runs a book and writes its output whole, or fails. Gives whether the book was refused.
+fn run(rt: &HostRuntime, book: &[u8]) -> Result<bool, Fault>
+    ensures { IfOk result (λ refused. refused ≡ book_refused book.now) }
 {
+    // An array and a length, as in `read_and_run`: a Vec's memory could fail.
     let mut out = [0u8; 204_800];
     let written = book_report::report(book, &mut out);
-    let length = written.length;
-    let whole = wrote(rt, &out[..length]);
-    let status = status(whole, written.refused);
-    Ran { whole, status }
+    write_whole(rt, &out[..written.length]).map_err(Fault::Output)?;
+    Ok(written.refused)
+}
+
+// Reads a book and runs it. Where reading fails nothing is written. The array's last byte is the
+// first one past the 65,536 that a book may have.
+fn read_and_run(rt: &HostRuntime) -> Result<bool, Fault> {
+    let mut book = [0u8; 65_537];
+    let length = read_book(&mut rt.stdin(), &mut book).map_err(Fault::Input)?;
+    run(rt, &book[..length])
+}
+
+// The exit status.
+#[derive(Clone, Copy)]
+enum Status {
+    Months = 0,
+    Refused = 1,
+    Failed = 2,
+}
+
+impl Status {
+    // By whether an output was written whole, and whether it is a refusal.
+    #[tactic(auto, unfolding(crate::specs::Status::status_of))]
+    fn of(ran: &Result<bool, Fault>) -> Status
+        ensures { MatchResult ran.now
+            (λ refused. status_number result ≡ status_of true refused)
+            (λ _. status_number result ≡ status_of false false) }
+    {
+        match ran {
+            Ok(false) => Status::Months,
+            Ok(true) => Status::Refused,
+            Err(_) => Status::Failed,
+        }
+    }
+
+    // Its number, which is a digit.
+    fn number(self) -> u8
+        ensures number { result ≡ status_number self }
+        ensures digit { result < 10 }
+    {
+        self as u8
+    }
 }
 
 // Hands the exit status to ./rothc, where that started the program. A write that fails is made
 // again, since a signal may have interrupted it: the answer doesn't say which.
-fn tell(rt: &HostRuntime, status: u8)
-    requires { status < 10 }
-{
+fn tell(rt: &HostRuntime, status: Status) {
     let mut argument = [0u8; 1];
     if let Err(FillError::NotPresent) = rt.arg(1, &mut argument) {
         return;
     }
     for _ in 0..STATUS_TRIES {
-        if write_all(STATUS_FILENO, &[b'0' + status]) {
+        if write_all(STATUS_FILENO, &[b'0' + status.number()]) {
             return;
         }
     }
 }
 
-// Where reading fails nothing is written. The array's last byte is the first one past the 65,536
-// that a book may have.
+// The program by itself ends with 0, as is documented, and ./rothc is handed the status: so there is
+// no ExitCode.
 fn main(rt: HostRuntime) {
-    let mut book = [0u8; 65_537];
-    match read_book(&mut rt.stdin(), &mut book) {
-        Ok(length) => {
-            let ran = run(&rt, &book[..length]);
-            tell(&rt, ran.status);
-        }
-        Err(why) => {
-            let _said = say(&rt, "standard input", why);
-            tell(&rt, status(false, false));
-        }
+    let ran = read_and_run(&rt);
+    if let Err(fault) = &ran {
+        let _ = say(&rt, fault);
     }
+    tell(&rt, Status::of(&ran));
 }

@@ -1,29 +1,31 @@
 -- A spin-up finds what its list of questions finds: what is asked before its years, then month by month over all its years, up to the
 -- first that settles. So each of its refusals is given exactly where it is the first that applies, with its place.
 -- Assumes nothing.
+use Rattle.std.specs.Prelude.{Ok, Err}
 use mathlib.Core.Path.{◌≡◌, refl, sym, ◌∙◌, ap}
 use mathlib.Core.Bool.{Bool, true, false, cond}
 use mathlib.Core.List.{List, [], ◌∷◌}
 use Prim.Native.Nat.{ℕ, zero, suc, ◌+◌, ◌*◌}
 use lib.IntN.{ℤ}
 use Rattle.month_state.specs.declared.State.{State}
-use Rattle.month_refusals.specs.declared.Check.{Check}
-use Rattle.month_refusals.specs.declared.Check.TheVariants.{Pass, Refuse}
+use Rattle.month_refusals.specs.Asked.{Check}
 use Rattle.month_refusals.specs.declared.Refusal.{Refusal}
 use Rattle.month_refusals.specs.Asked.{first_of, checking_order, part_of, Placed, Found, found_if, found, told, number_and_place, Exactly}
 use Rattle.month_refusals.specs.Refusals.{soil_asked, bounds_asked}
 use Rattle.month_refusals.proofs.First.{or_else, found_later, found_at, found-append, found_then, exactly}
-use Rattle.list_run.specs.declared.ListAnswer.{ListAnswer}
-use Rattle.list_run.specs.declared.ListAnswer.TheVariants as answers
-use Rattle.list_run.specs.Run.{months_asked, list_found}
+use Rattle.list_run.specs.Run.{ListAnswer}
+use Rattle.list_run.specs.Run.{months_asked}
+use Rattle.month_refusals.specs.Asked.{placed_found}
 use Rattle.list_run.proofs.Refusals.{months-found}
-use Rattle.spin_up.specs.declared.SpinOutcome.{SpinOutcome}
+use Rattle.month_state.specs.declared.Outcome.{Outcome}
 use Rattle.spin_up.specs.SpinUp.{settles, year_outcome, year_answer, year_state, after_year, years, later, years_asked}
-use Rattle.spin_up.specs.SpinUp.{twelve_asked, allowed_asked, before_years, spin_asked, spin_checked, spin_up, spin_found, spin_told}
+use Rattle.spin_up.specs.SpinUp.{twelve_asked, allowed_asked, before_years, spin_asked, spin_checked, spin_up}
+use Rattle.month_refusals.specs.Asked.{placed_found, placed_told}
+use Rattle.spin_up.specs.SpinUp.{SpinAnswer}
 
 -- What a spin-up's answer finds.
-abbrev finding : SpinOutcome → Found
-finding outcome = spin_found outcome.answer
+abbrev finding : Outcome SpinAnswer State → Found
+finding outcome = placed_found outcome.answer
 
 if_later :
     (places : ℕ) (test : Bool) (refusal : Refusal) (place : ℕ) (rest : Found)
@@ -41,13 +43,13 @@ found-later places (x ∷ rest) =
 
 -- A year's refusal is counted over all years; where it has none and doesn't settle, the later years are asked.
 by_answer :
-    (answer : ListAnswer) (test : Bool) (end s : State) (before : ℕ) (starting : State) (after : State → SpinOutcome) (rest : List Placed)
+    (answer : ListAnswer) (test : Bool) (end s : State) (before : ℕ) (starting : State) (after : State → (Outcome SpinAnswer State)) (rest : List Placed)
     → settles s end ≡ test → finding (after end) ≡ found rest
-    → finding (after_year answer end s before starting after) ≡ or_else (found_later (12 * before) (list_found answer)) (found (cond test [] rest))
+    → finding (after_year answer end s before starting after) ≡ or_else (found_later (12 * before) (placed_found answer)) (found (cond test [] rest))
 unfolding found
-by_answer answers.Finished true end s before starting after rest is same = rw is
-by_answer answers.Finished false end s before starting after rest is same = rw is same
-by_answer (answers.Refused refusal place) test end s before starting after rest is same = refl
+by_answer (Ok _) true end s before starting after rest is same = rw is
+by_answer (Ok _) false end s before starting after rest is same = rw is same
+by_answer (Err e) test end s before starting after rest is same = refl
 
 module _ (weather land : List ℤ) where
   pub years-found :
@@ -65,12 +67,12 @@ module _ (weather land : List ℤ) where
       ∙ sym (found-append (later (12 * before) asked) more ∙ rw (found-later (12 * before) asked))
 
 -- A whole spin-up.
-checked_found : (check : Check) (s : State) (rest : SpinOutcome) → finding (spin_checked check s rest) ≡ or_else (found_at 0 check) (finding rest)
-checked_found Pass s rest = refl
-checked_found (Refuse refusal) s rest = refl
+checked_found : (check : Check) (s : State) (rest : Outcome SpinAnswer State) → finding (spin_checked check s rest) ≡ or_else (found_at 0 check) (finding rest)
+checked_found (Ok _) s rest = refl
+checked_found (Err refusal) s rest = refl
 
 module _ (s : State) (weather land : List ℤ) (allowed : ℕ) where
-  pub spin_found_lem : spin_found (spin_up s weather land allowed).answer ≡ found (spin_asked s weather land allowed)
+  pub spin_found_lem : placed_found (spin_up s weather land allowed).answer ≡ found (spin_asked s weather land allowed)
   unfolding spin_up spin_asked
   spin_found_lem =
       checked_found (first_of (before_years s weather land allowed)) s _
@@ -78,11 +80,11 @@ module _ (s : State) (weather land : List ℤ) (allowed : ℕ) where
       ∙ sym (found_then 0 (before_years s weather land allowed) _)
 
   -- Its number and place are those of the first that applies, ..
-  pub spin_told_lem : spin_told (spin_up s weather land allowed).answer ≡ told (spin_asked s weather land allowed)
+  pub spin_told_lem : placed_told (spin_up s weather land allowed).answer ≡ told (spin_asked s weather land allowed)
   spin_told_lem = ap number_and_place spin_found_lem
 
   -- .. and each refusal is given exactly there.
-  pub spin_exactly : Exactly (spin_asked s weather land allowed) (spin_found (spin_up s weather land allowed).answer)
+  pub spin_exactly : Exactly (spin_asked s weather land allowed) (placed_found (spin_up s weather land allowed).answer)
   spin_exactly = exactly spin_found_lem
 
 -- What it asks before its years is part of the papers' list, in its order.

@@ -1,11 +1,11 @@
 -- What a spin-up's answer says of the years and of the state that is reached: document 01 has the
 -- years and the state agree.
-use Rattle.std.specs.Prelude.{◌≡◌, Bool, true, false, List, ℕ, zero, suc, ◌+◌, ◌*◌, ◌≤◌, ◌<◌, ℤ}
+use Rattle.std.specs.Prelude.{Ok, Err, ◌≡◌, Bool, true, false, List, ℕ, zero, suc, ◌+◌, ◌*◌, ◌≤◌, ◌<◌, ℤ}
 use Rattle.month_state.specs.declared.State.{State}
 use Rattle.month_state.specs.State.{kept_aside}
 use Rattle.month_refusals.specs.declared.Refusal.{Refusal}
-use Rattle.list_run.specs.declared.ListAnswer.{ListAnswer}
-use Rattle.list_run.specs.declared.ListAnswer.TheVariants as answers
+use Rattle.month_refusals.specs.Asked.{◌on◌}
+use Rattle.list_run.specs.Run.{ListAnswer}
 use Rattle.spin_up.specs.SpinUp.{settles, year_answer, year_state}
 
 -- The state after so many years of twelve months.
@@ -23,7 +23,7 @@ settles_after earlier weather land s =
 
 -- So many years ran to their end, and none of them settled.
 pub record Passed (weather land : List ℤ) (s : State) (count : ℕ) : Type 0 where
-  pub finished : (k : ℕ) → k < count → answer_after k weather land s ≡ answers.Finished
+  pub finished : (k : ℕ) → k < count → answer_after k weather land s ≡ Ok tt
   pub unsettled : (k : ℕ) → k < count → settles_after k weather land s ≡ false
 
 -- Settled with the years run, `before` being run before the state s: at most `left` more. The last
@@ -35,7 +35,7 @@ pub record SettledIn (weather land : List ℤ) (before left : ℕ) (s : State) (
   pub count : years ≡ before + earlier + 1
   pub within : years ≤ before + left
   pub passed : Passed weather land s earlier
-  pub finished : answer_after earlier weather land s ≡ answers.Finished
+  pub finished : answer_after earlier weather land s ≡ Ok tt
   pub settles : settles_after earlier weather land s ≡ true
   pub state : reached ≡ kept_aside (after_years (suc earlier) weather land s)
 
@@ -61,6 +61,6 @@ pub record RefusedIn
   pub within : earlier < left
   pub passed : Passed weather land s earlier
   pub month : ℕ
-  pub answer : answer_after earlier weather land s ≡ answers.Refused refusal month
+  pub answer : answer_after earlier weather land s ≡ Err (refusal on month)
   pub at : place ≡ 12 * (before + earlier) + month
   pub state : reached ≡ starting

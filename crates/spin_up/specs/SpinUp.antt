@@ -1,23 +1,22 @@
 -- Spin-up of document 01, and what it asks: 3, 4 to 7, 9 and 10 with place 0, then month by month
 -- what a month's entries are asked.
-use Rattle.std.specs.Prelude.{Bool, true, false, not, cond, ◌&&◌, ◌||◌, List, [], ◌∷◌, ◌++◌, ℕ, zero, suc, ◌+◌, ◌*◌, leb, ltb, eqb, ℤ, length}
+use Rattle.std.specs.Prelude.{Result, Ok, Err, Bool, true, false, not, cond, ◌&&◌, ◌||◌, List, [], ◌∷◌, ◌++◌, ℕ, zero, suc, ◌+◌, ◌*◌, leb, ltb, eqb, ℤ, length}
 use Rattle.month_state.specs.declared.State.{State}
 use Rattle.month_state.specs.State.{five_pools, kept_aside}
 use Rattle.list_rows.specs.Rows.{weather_width, land_width}
-use Rattle.month_refusals.specs.declared.NumberAndPlace.{NumberAndPlace}
-use Rattle.month_refusals.specs.declared.Check.{Check}
-use Rattle.month_refusals.specs.declared.Check.TheVariants.{Pass, Refuse}
-use Rattle.month_refusals.specs.declared.Refusal.TheVariants.{Rows, Years}
-use Rattle.month_refusals.specs.Asked.{Asked, ◌if◌, first_of, Placed, at, Found, nothing, refused}
-use Rattle.month_refusals.specs.Asked.{number_and_place}
+use Rattle.month_state.specs.declared.Outcome.{Outcome}
+use Rattle.month_refusals.specs.declared.RefusedAt.{RefusedAt}
+use Rattle.month_refusals.specs.declared.Refusal.TheVariants as refusals
+use Rattle.month_refusals.specs.Asked.{Check, Asked, ◌if◌, first_of, Placed, at, ◌on◌}
 use Rattle.month_refusals.specs.Refusals.{soil_asked, bounds_asked}
-use Rattle.list_run.specs.declared.ListAnswer.{ListAnswer}
-use Rattle.list_run.specs.declared.ListAnswer.TheVariants as answers
-use Rattle.list_run.specs.declared.ListOutcome.{ListOutcome}
-use Rattle.list_run.specs.Run.{months, months_asked}
-use Rattle.spin_up.specs.declared.SpinAnswer.{SpinAnswer}
-use Rattle.spin_up.specs.declared.SpinAnswer.TheVariants.{Settled, Unsettled, Refused}
-use Rattle.spin_up.specs.declared.SpinOutcome.{SpinOutcome}
+use Rattle.list_run.specs.Run.{ListAnswer, months, months_asked}
+use Rattle.spin_up.specs.declared.Years.{Years}
+use Rattle.spin_up.specs.declared.Years.TheVariants.{Settled, Unsettled}
+
+-- A spin-up's answer: the years, settled or not, or a refusal at a place: 0, or the month counted
+-- over all its years.
+abbrev pub SpinAnswer : Type 0
+SpinAnswer = Result Years RefusedAt
 
 -- ---- the years
 
@@ -27,7 +26,7 @@ settles start end =
     leb (five_pools end) (five_pools start + 1000) && leb (five_pools start) (five_pools end + 1000)
 
 -- A year's twelve months. No row is kept: nothing is written to an output of no numbers.
-unfoldable pub year_outcome : List ℤ → List ℤ → State → ListOutcome
+unfoldable pub year_outcome : List ℤ → List ℤ → State → Outcome ListAnswer State
 year_outcome weather land s = (months 12 weather land 0 s []).outcome
 
 abbrev pub year_answer : List ℤ → List ℤ → State → ListAnswer
@@ -38,23 +37,23 @@ year_state weather land s = (year_outcome weather land s).state
 
 -- Settled with the years run and the state reached, or on with the later years. "A spin-up ends
 -- with none kept unless refused" (change 2026-02).
-abbrev pub year_end : Bool → ℕ → State → SpinOutcome → SpinOutcome
-year_end true years s later = record { answer = Settled years; state = kept_aside s }
+abbrev pub year_end : Bool → ℕ → State → Outcome SpinAnswer State → Outcome SpinAnswer State
+year_end true years s later = record { answer = Ok (Settled years); state = kept_aside s }
 year_end false years s later = later
 
 -- After a year that began in the state s, `before` years being run before it: refused, with the
 -- place counted over all years and the starting state; else settled or on.
-abbrev pub after_year : ListAnswer → State → State → ℕ → State → (State → SpinOutcome) → SpinOutcome
-after_year answers.Finished end s before starting later =
-    year_end (settles s end) (before + 1) end (later end)
-after_year (answers.Refused refusal place) end s before starting later =
-    record { answer = Refused refusal (12 * before + place); state = starting }
+abbrev pub after_year : ListAnswer → State → State → ℕ → State
+    → (State → Outcome SpinAnswer State) → Outcome SpinAnswer State
+after_year (Ok _) end s before starting later = year_end (settles s end) (before + 1) end (later end)
+after_year (Err e) end s before starting later =
+    record { answer = Err (e.refusal on (12 * before + e.place)); state = starting }
 
 -- So many years more, `before` years being run. If no year settles, it is unsettled with all the
 -- years.
-unfoldable pub years : ℕ → List ℤ → List ℤ → ℕ → State → State → SpinOutcome
+unfoldable pub years : ℕ → List ℤ → List ℤ → ℕ → State → State → Outcome SpinAnswer State
 years zero weather land before starting s =
-    record { answer = Unsettled before; state = kept_aside s }
+    record { answer = Ok (Unsettled before); state = kept_aside s }
 years (suc left) weather land before starting s =
     after_year (year_answer weather land s) (year_state weather land s) s before starting
     (λ end. years left weather land (suc before) starting end)
@@ -67,11 +66,11 @@ not_twelve width numbers = not (eqb (length numbers) (width * 12))
 
 unfoldable pub twelve_asked : List ℤ → List ℤ → List Asked
 twelve_asked weather land =
-    (Rows if (not_twelve weather_width weather || not_twelve land_width land)) ∷ []
+    (refusals.Rows if (not_twelve weather_width weather || not_twelve land_width land)) ∷ []
 
 -- 9: the years are outside 1 to 10,000.
 unfoldable pub allowed_asked : ℕ → List Asked
-allowed_asked allowed = (Years if (ltb allowed 1 || ltb 10000 allowed)) ∷ []
+allowed_asked allowed = (refusals.Years if (ltb allowed 1 || ltb 10000 allowed)) ∷ []
 
 -- 3, 4 to 7, 9 and 10: before the years.
 unfoldable pub before_years : State → List ℤ → List ℤ → ℕ → List Asked
@@ -100,32 +99,23 @@ spin_asked s weather land allowed =
 -- ---- the spin-up
 
 -- Refused before the years, with the state that was given; else what the years come to.
-abbrev pub spin_checked : Check → State → SpinOutcome → SpinOutcome
-spin_checked Pass s later = later
-spin_checked (Refuse refusal) s later = record { answer = Refused refusal 0; state = s }
+abbrev pub spin_checked : Check → State → Outcome SpinAnswer State → Outcome SpinAnswer State
+spin_checked (Ok _) s later = later
+spin_checked (Err refusal) s later = record { answer = Err (refusal on 0); state = s }
 
 -- A spin-up from a given state of at most the years that are allowed.
-unfoldable pub spin_up : State → List ℤ → List ℤ → ℕ → SpinOutcome
+unfoldable pub spin_up : State → List ℤ → List ℤ → ℕ → Outcome SpinAnswer State
 spin_up s weather land allowed =
     spin_checked (first_of (before_years s weather land allowed)) s (years allowed weather land 0 s s)
 
--- What a spin-up's answer says is found, the papers' number and place of it, and the years run:
--- those of a settled or an unsettled one, and none where it is refused.
-abbrev pub spin_found : SpinAnswer → Found
-spin_found (Settled years) = nothing
-spin_found (Unsettled years) = nothing
-spin_found (Refused refusal place) = refused refusal place
-
-abbrev pub spin_told : SpinAnswer → NumberAndPlace
-spin_told answer = number_and_place (spin_found answer)
-
+-- The years that an answer tells, 0 where it is refused.
 abbrev pub spin_years : SpinAnswer → ℕ
-spin_years (Settled years) = years
-spin_years (Unsettled years) = years
-spin_years (Refused refusal place) = 0
+spin_years (Ok (Settled years)) = years
+spin_years (Ok (Unsettled years)) = years
+spin_years (Err e) = 0
 
 -- A state as a spin-up ends with it: none kept, unless it is refused.
 abbrev pub spin_end : SpinAnswer → State → State
-spin_end (Settled years) s = kept_aside s
-spin_end (Unsettled years) s = kept_aside s
-spin_end (Refused refusal place) s = s
+spin_end (Ok (Settled years)) s = kept_aside s
+spin_end (Ok (Unsettled years)) s = kept_aside s
+spin_end (Err e) s = s

@@ -9,6 +9,10 @@ use lib.Dec.{eqb}
 use lib.ListN.{length}
 use Rattle.number_units.specs.declared.Grams.{Grams}
 use Rattle.step_pools.specs.Pools.{share, grams_at, total}
+use Rattle.std.proofs.Common.{Result, Ok, Err, IsOk, subst}
+use Rattle.step_additions.specs.declared.Kind.{Kind}
+use Rattle.step_additions.specs.declared.NoKind.{NoKind}
+use Rattle.step_additions.specs.Kinds.{kind_number, HasNumber}
 use Rattle.step_additions.specs.Additions.{plant_to_dpm, plant_to_rpm, manure_to_dpm, manure_to_hum, manure_to_rpm, added}
 
 -- Document 01's known figures of step 6: 61 g of plant carbon of kind 1 are 36 and 25; 99 g of manure are DPM 48,
@@ -18,6 +22,17 @@ pub known_additions :
     × (manure_to_dpm 99 ≡ 48) × (manure_to_rpm 99 ≡ 50) × (manure_to_hum 99 ≡ 1)
 unfolding plant_to_dpm share
 known_additions = (refl, refl, refl, refl, refl)
+
+-- A number from 1 to 3 has a kind, ..
+pub number-has_kind : {number : ℕ} (read : Result Kind NoKind) → HasNumber number read → 1 ≤ number → number ≤ 3 → IsOk read
+number-has_kind (Ok kind) is first last = refl
+number-has_kind (Err none) is first last = absurd (omega (arith, is))
+
+-- .. which has that number.
+pub number-of_kind :
+    {number : ℕ} {read : Result Kind NoKind} {kind : Kind} → HasNumber number read → read ≡ Ok kind
+    → kind_number kind ≡ number
+number-of_kind {number} is same = subst (HasNumber number) same is
 
 cond_le : (t : Bool) {a b x : ℕ} → a ≤ x → b ≤ x → cond t a b ≤ x
 cond_le true ha hb = ha

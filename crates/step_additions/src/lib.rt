@@ -3,51 +3,82 @@
 
 ghost use Rattle.std.specs.Prelude.{◌≡◌, ◌+◌, ◌≤◌, ◌<◌, ◌^◌};
 ghost use Rattle.step_pools.specs.Pools.{total};
-ghost use Rattle.step_additions.specs.Additions.{plant_to_dpm, manure_to_dpm, manure_to_hum, added};
+ghost use Rattle.step_additions.specs.Kinds.{kind_number, HasNumber};
+ghost use Rattle.step_additions.specs.Additions.{plant_to_dpm, added};
 
 use number_units::Grams;
 use step_pools::share;
 
+// What grows, with document 01's numbers. DPM and RPM share its carbon.
+#[derive(Clone, Copy)]
+pub enum Kind {
+    // crops and improved grassland, 1.44 to 1
+    Crops = 1,
+    // unimproved grassland and scrub, 0.67 to 1
+    Scrub = 2,
+    // deciduous and tropical woodland, 0.25 to 1
+    Woodland = 3,
+}
+
+// No kind has the number.
+#[derive(Clone, Copy)]
+pub struct NoKind;
+
+impl TryFrom<u64> for Kind {
+    type Error = NoKind;
+
+    ghost try_from_gives = { HasNumber };
+
+    fn try_from(number: u64) -> Result<Kind, NoKind> {
+        match number {
+            1 => Ok(Kind::Crops),
+            2 => Ok(Kind::Scrub),
+            3 => Ok(Kind::Woodland),
+            _ => Err(NoKind),
+        }
+    }
+}
+
+// What a month brings: plant carbon of a kind, and manure.
+#[derive(Clone, Copy)]
+pub struct Additions {
+    pub kind: Kind,
+    pub plant: Grams,
+    pub manure: Grams,
+}
+
 // What DPM gets of plant carbon of a kind.
-fn plant_to_dpm(kind: u64, plant: Grams) -> Grams
-    requires { (1 ≤ kind) × (kind ≤ 3) }
-    ensures { result.0 ≡ plant_to_dpm kind plant.0 }
+#[tactic(auto, unfolding(crate::specs::Additions::plant_to_dpm))]
+fn plant_to_dpm(kind: Kind, plant: Grams) -> Grams
+    ensures { (result.0 ≡ plant_to_dpm (kind_number kind) plant.0) × (result.0 ≤ plant.0) }
 {
-    if kind == 1 {
-        return Grams(share(plant.0, 36, 61));
+    match kind {
+        Kind::Crops => share(plant, 36, 61),
+        Kind::Scrub => share(plant, 67, 167),
+        Kind::Woodland => share(plant, 1, 5),
     }
-    if kind == 2 {
-        return Grams(share(plant.0, 67, 167));
+}
+
+impl Additions {
+    // Step 6: plant carbon and manure come into the four pools, RPM getting the rest of each. Put
+    // in place, as decay is.
+    #[tactic(auto, unfolding(step_pools::specs::Pools::share, step_pools::specs::Pools::total))]
+    #[inline(always)]
+    pub fn added_to(self, pools: [Grams; 4]) -> [Grams; 4]
+        requires { total pools + self.plant.0 + self.manure.0 < 2 ^ 64 }
+        ensures { result ≡ added pools (kind_number self.kind) self.plant.0 self.manure.0 }
+    {
+        let [dpm, rpm, bio, hum] = pools;
+        let plant_dpm = plant_to_dpm(self.kind, self.plant);
+        let plant_rpm = self.plant - plant_dpm;
+        let manure_dpm = share(self.manure, 49, 100);
+        let manure_hum = share(self.manure, 2, 100);
+        let manure_rpm = self.manure - manure_dpm - manure_hum;
+        [
+            dpm + plant_dpm + manure_dpm,
+            rpm + plant_rpm + manure_rpm,
+            bio,
+            hum + manure_hum,
+        ]
     }
-    Grams(share(plant.0, 1, 5))
-}
-
-// What DPM gets of manure.
-fn manure_to_dpm(manure: Grams) -> Grams
-    ensures { result.0 ≡ manure_to_dpm manure.0 }
-{
-    Grams(share(manure.0, 49, 100))
-}
-
-// What HUM gets of manure.
-fn manure_to_hum(manure: Grams) -> Grams
-    ensures { result.0 ≡ manure_to_hum manure.0 }
-{
-    Grams(share(manure.0, 2, 100))
-}
-
-// Step 6: plant carbon and manure come into the four pools, RPM getting the rest of each.
-pub fn additions(pools: [Grams; 4], kind: u64, plant: Grams, manure: Grams) -> [Grams; 4]
-    requires { (1 ≤ kind) × (kind ≤ 3) × (total pools + plant.0 + manure.0 < 2 ^ 64) }
-    ensures { result ≡ added pools kind plant.0 manure.0 }
-{
-    let plant_dpm = plant_to_dpm(kind, plant).0;
-    let manure_dpm = manure_to_dpm(manure).0;
-    let manure_hum = manure_to_hum(manure).0;
-    let plant_rpm = plant.0 - plant_dpm;
-    let manure_rpm = manure.0 - manure_dpm - manure_hum;
-    let dpm = pools[0].0 + plant_dpm + manure_dpm;
-    let rpm = pools[1].0 + plant_rpm + manure_rpm;
-    let hum = pools[3].0 + manure_hum;
-    [Grams(dpm), Grams(rpm), pools[2], Grams(hum)]
 }

@@ -4,11 +4,12 @@
 
 ghost use Rattle.std.specs.Prelude.{◌≡◌, ◌≤◌, ◌<◌, ◌^◌, get_or};
 ghost use Rattle.step_pools.specs.Pools.{total};
-ghost use Rattle.step_decay.specs.Decay.{Survivals, lost, losses, formed, carbon_dioxide};
-ghost use Rattle.step_decay.specs.Decay.{to_bio, decayed, split, Within};
+ghost use Rattle.step_decay.specs.Decay.{Survivals, lost, losses, carbon_dioxide};
+ghost use Rattle.step_decay.specs.Decay.{decayed, split, Within};
 ghost use Rattle.step_decay.specs.Rates.{survivals, term_counts};
 
 use number_units::Grams;
+use std::array;
 use step_pools::{share, total};
 use step_survival::{Counted, survival, survival_counted};
 
@@ -16,15 +17,12 @@ use step_survival::{Counted, survival, survival_counted};
 pub const RATES: [u64; 4] = [1000, 30, 66, 2];
 
 // Step 4 for the four pools: each one's survival number at the rate number n.
+#[tactic(auto, using(step_pools::proofs::Laws::is_four), unfolding(crate::specs::Rates::survivals))]
 pub fn survivals(n: u64) -> [u64; 4]
     requires { n ≤ 8363900000 }
     ensures { (result ≡ survivals n) × Survivals result }
 {
-    let dpm = survival(n, RATES[0]);
-    let rpm = survival(n, RATES[1]);
-    let bio = survival(n, RATES[2]);
-    let hum = survival(n, RATES[3]);
-    [dpm, rpm, bio, hum]
+    array::from_fn(|pool| survival(n, RATES[pool]))
 }
 
 // One pool's survival number, as `survivals` has it, and how many terms were summed for it. pool is
@@ -37,76 +35,67 @@ pub fn pool_counted(n: u64, pool: usize) -> Counted
     survival_counted(n, RATES[pool])
 }
 
-// What a pool of y grams loses at the survival number s.
-fn loss(y: Grams, s: u64) -> Grams
+// The shares of a month's decay: of each pool what survives, in billionths, and of the losses what
+// is formed, the clay number r, in millionths.
+#[derive(Clone, Copy)]
+pub struct Shares {
+    pub survival: [u64; 4],
+    pub r: u64,
+    ghost in_range: { Survivals survival × (r ≤ 1000000) },
+}
+
+// What a pool loses at the survival number s.
+fn loss(pool: Grams, s: u64) -> Grams
     requires { s ≤ 1000000000 }
-    ensures { result.0 ≡ lost y.0 s }
+    ensures { result.0 ≡ lost pool.0 s }
 {
-    let kept = share(y.0, s, 1000000000);
-    Grams(y.0 - kept)
+    pool - share(pool, s, 1_000_000_000)
 }
 
 // What each of the four pools loses.
+#[tactic(auto, using(step_pools::proofs::Laws::is_four_grams), unfolding(crate::specs::Decay::losses))]
 fn losses(pools: [Grams; 4], survival: [u64; 4]) -> [Grams; 4]
     requires { Survivals survival }
     ensures { result ≡ losses pools survival }
 {
-    let dpm = loss(pools[0], survival[0]);
-    let rpm = loss(pools[1], survival[1]);
-    let bio = loss(pools[2], survival[2]);
-    let hum = loss(pools[3], survival[3]);
-    [dpm, rpm, bio, hum]
+    array::from_fn(|pool| loss(pools[pool], survival[pool]))
 }
 
-// What losses of l grams together form at the clay number r.
-fn formed(l: Grams, r: u64) -> Grams
-    requires { r ≤ 1000000 }
-    ensures { result.0 ≡ formed l.0 r }
-{
-    Grams(share(l.0, r, 1000000))
-}
-
-// What BIO gains of f grams formed.
-fn to_bio(f: Grams) -> Grams
-    ensures { result.0 ≡ to_bio f.0 }
-{
-    Grams(share(f.0, 46, 100))
-}
-
-// The four pools after decay, and the CO2 that it gave off.
+// The four pools after decay, or after decay and additions, and what left them as CO2.
 #[derive(Clone, Copy)]
-pub struct Decayed {
+pub struct Turned {
     pub pools: [Grams; 4],
     pub co2: Grams,
 }
 
 // The split of the four losses: what they form goes to BIO and HUM, and the rest is CO2.
-fn split(pools: [Grams; 4], lost: [Grams; 4], r: u64) -> Decayed
+fn split(pools: [Grams; 4], lost: [Grams; 4], r: u64) -> Turned
     requires { Within lost pools × (r ≤ 1000000) × (total pools < 2 ^ 64) }
     ensures pools { result.pools ≡ split pools lost r }
     ensures co2 { result.co2.0 ≡ carbon_dioxide (total lost) r }
 {
-    let l = total(lost);
-    let f = formed(l, r);
-    let bio_gain = to_bio(f).0;
-    let hum_gain = f.0 - bio_gain;
-    let dpm = pools[0].0 - lost[0].0;
-    let rpm = pools[1].0 - lost[1].0;
-    let bio = pools[2].0 - lost[2].0 + bio_gain;
-    let hum = pools[3].0 - lost[3].0 + hum_gain;
-    let co2 = l.0 - f.0;
-    Decayed {
-        pools: [Grams(dpm), Grams(rpm), Grams(bio), Grams(hum)],
-        co2: Grams(co2),
+    let all = total(lost);
+    let formed = share(all, r, 1_000_000);
+    let bio_gain = share(formed, 46, 100);
+    let hum_gain = formed - bio_gain;
+    Turned {
+        pools: [
+            pools[0] - lost[0],
+            pools[1] - lost[1],
+            pools[2] - lost[2] + bio_gain,
+            pools[3] - lost[3] + hum_gain,
+        ],
+        co2: all - formed,
     }
 }
 
-// Step 5: each pool loses its share, and the losses are split.
-pub fn decay(pools: [Grams; 4], survival: [u64; 4], r: u64) -> Decayed
-    requires { Survivals survival × (r ≤ 1000000) × (total pools < 2 ^ 64) }
-    ensures pools { result.pools ≡ decayed pools survival r }
-    ensures co2 { result.co2.0 ≡ carbon_dioxide (total (losses pools survival)) r }
+// Step 5: each pool loses its share, and the losses are split. A month decays carbon and modern
+// grams: in two calls that are not put in place, pools and shares went through memory.
+#[inline(always)]
+pub fn decay(pools: [Grams; 4], shares: Shares) -> Turned
+    requires { total pools < 2 ^ 64 }
+    ensures pools { result.pools ≡ decayed pools shares.survival shares.r }
+    ensures co2 { result.co2.0 ≡ carbon_dioxide (total (losses pools shares.survival)) shares.r }
 {
-    let lost = losses(pools, survival);
-    split(pools, lost, r)
+    split(pools, losses(pools, shares.survival), shares.r)
 }

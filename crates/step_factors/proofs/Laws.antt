@@ -1,7 +1,8 @@
 -- The rules of steps 1 and 2 over the whole tables: each test is computed once over all entries and carried to each place.
 -- Assumes nothing.
-use mathlib.Core.Path.{◌≡◌, refl}
+use mathlib.Core.Path.{◌≡◌, refl, ◌∙◌, ap}
 use mathlib.Core.Bool.{Bool}
+use mathlib.Core.List.{List}
 use Prim.Native.Nat.{ℕ, ◌≤◌, ◌<◌}
 use native.Mathlib.Omega.{arith}
 use lib.Dec.{T, lit<}
@@ -9,6 +10,8 @@ use lib.ListN.{length, get_or}
 use Rattle.number_exact.specs.Exponential.{agreeing, opposing, denominator, Nearest}
 use Rattle.number_exact.proofs.Tests.{all_pass, entry, at_most, entry_most}
 use Rattle.number_exact.proofs.Nearest.{nearest_test, half_test, minus_sum, plus_sum, nearest_by_test}
+use Rattle.step_factors.specs.declared.temperature_table.TheConstants.{TEMPERATURE_FACTORS}
+use Rattle.step_factors.specs.declared.clay_table.TheConstants.{CLAY_NUMBERS}
 use Rattle.step_factors.specs.TemperatureTable.{temperature_table}
 use Rattle.step_factors.specs.ClayTable.{clay_table}
 use Rattle.step_factors.specs.Factors.{
@@ -20,6 +23,8 @@ use Rattle.step_factors.specs.Factors.{
   clay_den,
   clay_exponent_num,
   clay_exponent_den,
+  clay_number,
+  IsClayNumber,
 }
 
 -- sums of 34 and 35 terms
@@ -73,3 +78,22 @@ temperature_most i h = entry_most 83639 temperature_table temperature_all_most i
 
 pub clay-most : (c : ℕ) → c ≤ 1000 → get_or clay_table c 0 ≤ 244467
 clay-most c h = entry_most 244467 clay_table clay_all_most c (omega (arith, clay-length))
+
+-- ---- the code's tables are the definition's, ..
+
+temperature_same : TEMPERATURE_FACTORS ≡ temperature_table
+unfolding temperature_table
+temperature_same = refl
+
+clay-same : CLAY_NUMBERS ≡ clay_table
+unfolding clay_table
+clay-same = refl
+
+-- .. and so a number read from them is that of the definition
+pub temperature_read : {a : ℕ} (i : ℕ) → a ≡ get_or TEMPERATURE_FACTORS i 0 → a ≡ get_or temperature_table i 0
+temperature_read i is = is ∙ ap (λ (t : List ℕ). get_or t i 0) temperature_same
+
+pub clay_read : {r : ℕ} (c : ℕ) → c ≤ 1000 → r ≡ get_or CLAY_NUMBERS c 0 → (r ≡ clay_number c) × IsClayNumber c r × (r ≤ 244467)
+unfolding clay_number IsClayNumber
+clay_read c h is =
+    let e = is ∙ ap (λ (t : List ℕ). get_or t c 0) clay-same in (e, rw e (clay_nearest c h), rw e (clay-most c h))

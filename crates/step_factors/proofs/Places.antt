@@ -5,12 +5,16 @@ use mathlib.Core.Bool.{true, false}
 use Prim.Native.Nat.{ℕ, suc, ◌+◌, ◌-◌, ◌<◌, ◌≤◌}
 use native.Mathlib.Omega.{arith}
 use borrow.Author.Tests.{le-ltb, lt-ltb, ltb-true, ltb-false}
-use lib.Dec.{leb→le}
-use lib.IntN.{ℤ, pos, negsuc, ◌+ℤ◌}
+use lib.Dec.{leb→le, lit≤}
+use lib.IntN.{ℤ, pos, negsuc, nat_abs, ◌+ℤ◌}
 use lib.Signed.{lt_z, ◌≤ℤ◌}
+use mir.Syntax.{w64}
+use mir.Val.{SFits, to_z, of_z}
+use mir.Facts.{to_z-of_z}
+use Rattle.step_factors.specs.declared.temperature_table.TheConstants.{TEMPERATURE_FACTORS}
 use Rattle.step_factors.specs.Factors.{temperature_factor, factor_at, IsTemperatureFactor, IsFactorAt}
 use Rattle.step_factors.specs.TemperatureTable.{temperature_table}
-use Rattle.step_factors.proofs.Laws.{temperature_nearest, temperature_most}
+use Rattle.step_factors.proofs.Laws.{temperature_nearest, temperature_most, temperature_read}
 use lib.ListN.{get_or}
 
 pub place : (t : ℤ) → lt_z t (negsuc 49) ≡ false → t ≤ℤ pos 500 → (i : ℕ) × (i < 551) × (t +ℤ pos 50 ≡ pos i)
@@ -37,3 +41,25 @@ pub in_table :
     × (get_or temperature_table i 0 ≤ 83639)
 unfolding temperature_factor factor_at IsTemperatureFactor IsFactorAt
 in_table t i h e = (rw e, rw e (temperature_nearest i h), temperature_most i h)
+
+-- ---- what the code computes, whose signed numbers are read from their bits
+
+-- a temperature that the test finds below -50
+pub below_read :
+    (t : ℤ) → SFits w64 t → lt_z (to_z w64 (of_z w64 t)) (negsuc 49) ≡ true
+    → (0 ≡ temperature_factor t) × IsTemperatureFactor t 0 × (0 ≤ 83639)
+below_read t fits low = let p = below_table t (rw (to_z-of_z fits) at low) in (p.0, p.1, lit≤ tt)
+
+-- the number at the sum's place in the code's table
+pub table_read :
+    {a : ℕ} (t : ℤ) → SFits w64 t → lt_z (to_z w64 (of_z w64 t)) (negsuc 49) ≡ false → t ≤ℤ pos 500
+    → a ≡ get_or TEMPERATURE_FACTORS (nat_abs (to_z w64 (of_z w64 (to_z w64 (of_z w64 t) +ℤ pos 50)))) 0
+    → (a ≡ temperature_factor t) × IsTemperatureFactor t a × (a ≤ 83639)
+table_read t fits low high is =
+    let p = place t (rw (to_z-of_z fits) at low) high in
+    let sum : to_z w64 (of_z w64 t) +ℤ pos 50 ≡ pos p.0 = rw (to_z-of_z fits) p.2 in
+    let back : to_z w64 (of_z w64 (to_z w64 (of_z w64 t) +ℤ pos 50)) ≡ pos p.0 = rw sum (to_z-of_z (place_fits p.0 p.1)) in
+    rw (temperature_read p.0 (rw back at is)) (in_table t p.0 p.1 p.2)
+  where
+    place_fits : (i : ℕ) → i < 551 → SFits w64 (pos i)
+    place_fits i h = record { sfits = omega arith }

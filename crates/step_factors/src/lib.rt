@@ -9,9 +9,9 @@ ghost use Rattle.std.specs.Prelude.{◌≡◌, ◌≤◌, pos, ◌≤ℤ◌};
 ghost use Rattle.step_factors.specs.Factors.{temperature_factor, IsTemperatureFactor};
 ghost use Rattle.step_factors.specs.Factors.{clay_number, IsClayNumber};
 
-use clay_table::clay_at;
+use clay_table::CLAY_NUMBERS;
 use number_units::TenThousandths;
-use temperature_table::temperature_at;
+use temperature_table::TEMPERATURE_FACTORS;
 
 // A, for a temperature in tenths of a degree, up to 500.
 pub fn temperature_factor(t: i64) -> TenThousandths
@@ -22,8 +22,7 @@ pub fn temperature_factor(t: i64) -> TenThousandths
     if t < -50 {
         return TenThousandths(0);
     }
-    let place = (t + 50) as usize;
-    TenThousandths(temperature_at(place) as u64)
+    TenThousandths(u64::from(TEMPERATURE_FACTORS[(t + 50) as usize]))
 }
 
 // R, for a clay content in tenths of a percent, up to 1000.
@@ -31,5 +30,5 @@ pub fn clay_number(clay: u64) -> u64
     requires { clay ≤ 1000 }
     ensures { (result ≡ clay_number clay) × IsClayNumber clay result × (result ≤ 244467) }
 {
-    clay_at(clay as usize) as u64
+    u64::from(CLAY_NUMBERS[clay as usize])
 }

@@ -12,6 +12,7 @@ use step_pools::share;
 pub const INERT_ACTIVITY: u64 = 2;
 
 // The modern grams of so much carbon of an activity in thousandths.
+#[tactic(auto, unfolding(crate::specs::Modern::modern_grams, step_pools::specs::Pools::share))]
 pub fn modern_grams(carbon: Grams, activity: u64) -> Grams
     requires { (carbon.0 ≤ 1000000000) × (activity ≤ 2000) }
     ensures { result.0 ≡ modern_grams carbon.0 activity }
@@ -23,16 +24,13 @@ pub fn modern_grams(carbon: Grams, activity: u64) -> Grams
 fn month_older(modern: Grams) -> Grams
     ensures { result.0 ≡ month_older modern.0 }
 {
-    Grams(share(modern.0, 999_989_629, 1_000_000_000))
+    share(modern, 999_989_629, 1_000_000_000)
 }
 
 // The radioactive loss of a month in the four active pools.
+#[tactic(auto, using(step_pools::proofs::Laws::is_four_grams), unfolding(crate::specs::Modern::aged))]
 pub fn aged(modern: [Grams; 4]) -> [Grams; 4]
     ensures { result ≡ aged modern }
 {
-    let dpm = month_older(modern[0]);
-    let rpm = month_older(modern[1]);
-    let bio = month_older(modern[2]);
-    let hum = month_older(modern[3]);
-    [dpm, rpm, bio, hum]
+    modern.map(month_older)
 }

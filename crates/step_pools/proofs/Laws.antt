@@ -2,16 +2,38 @@
 -- Assumes nothing.
 use Prim.Native.Nat.{ℕ, ◌+◌, ◌*◌, ◌/◌, ◌%◌, ◌≤◌, ◌<◌}
 use mathlib.Core.Path.{◌≡◌, sym, ap, ◌∙◌}
-use mathlib.Core.List.{[], ◌∷◌}
+use mathlib.Core.List.{List, [], ◌∷◌}
 use native.Mathlib.Nat.{div-mul-le_self, lt-div-mul-add, div-le_of_le-mul, mul-div_cancel, mul-add-div_right, div-add-mod', mul-le-mul_left}
 use native.Mathlib.Omega.{arith}
-use Rattle.step_pools.specs.Pools.{share, grams}
+use lib.ListN.{length, get_or}
+use Rattle.number_units.specs.declared.Grams.{Grams}
+use Rattle.step_pools.specs.Pools.{share, grams, grams_at}
 
 -- Lists of four grams are equal where their numbers are.
 pub four_grams :
     {a a' b b' c c' d d' : ℕ} → a ≡ a' → b ≡ b' → c ≡ c' → d ≡ d'
     → grams a ∷ grams b ∷ grams c ∷ grams d ∷ [] ≡ grams a' ∷ grams b' ∷ grams c' ∷ grams d' ∷ []
 four_grams p q r s = λ i. grams (p i) ∷ grams (q i) ∷ grams (r i) ∷ grams (s i) ∷ []
+
+-- A list of four is its elements, ..
+pub is_four :
+    {A : Type 0} (other : A) (list : List A) {a b c d : A} → length list ≡ 4
+    → get_or list 0 other ≡ a → get_or list 1 other ≡ b → get_or list 2 other ≡ c → get_or list 3 other ≡ d
+    → list ≡ a ∷ b ∷ c ∷ d ∷ []
+is_four other [] long p q r s = absurd (omega (arith, long))
+is_four other (w ∷ []) long p q r s = absurd (omega (arith, long))
+is_four other (w ∷ x ∷ []) long p q r s = absurd (omega (arith, long))
+is_four other (w ∷ x ∷ y ∷ []) long p q r s = absurd (omega (arith, long))
+is_four other (w ∷ x ∷ y ∷ z ∷ []) long p q r s = λ i. p i ∷ q i ∷ r i ∷ s i ∷ []
+is_four other (w ∷ x ∷ y ∷ z ∷ v ∷ rest) long p q r s = absurd (omega (arith, long))
+
+-- .. and one of grams its numbers.
+pub is_four_grams :
+    (list : List Grams) {a b c d : ℕ} → length list ≡ 4
+    → grams_at list 0 ≡ a → grams_at list 1 ≡ b → grams_at list 2 ≡ c → grams_at list 3 ≡ d
+    → list ≡ grams a ∷ grams b ∷ grams c ∷ grams d ∷ []
+is_four_grams list long p q r s =
+    is_four (grams 0) list long (λ i. grams (p i)) (λ i. grams (q i)) (λ i. grams (r i)) (λ i. grams (s i))
 
 -- A share is the floor of x * part / whole: its product with the whole does not pass x * part, ..
 pub share_floor : (x part whole : ℕ) → share x part whole * whole ≤ x * part

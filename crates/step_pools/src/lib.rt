@@ -1,4 +1,4 @@
-// Grams shared and added: a share of a number rounded down, and the sum of four pools, or of their
+// Grams shared and added: a share of them rounded down, and the sum of four pools, or of their
 // losses, by value.
 #![tactic(auto)]
 
@@ -7,24 +7,29 @@ ghost use Rattle.step_pools.specs.Pools.{share, total};
 
 use number_units::Grams;
 
-// part of the whole equal parts of x, rounded down. Up to ten billion, which is above the carbon of
-// any accepted field, one product and one division do it. A larger x is divided first, so that no
-// product passes 64 bits for any x.
-pub fn share(x: u64, part: u64, whole: u64) -> u64
+// Up to so many grams, which is above the carbon of any accepted field, one product and one
+// division make a share. More is divided first, so that no product passes 64 bits for any grams.
+const SHARED_AT_ONCE: u64 = 10_000_000_000;
+
+// part of the whole equal parts of grams, rounded down.
+pub fn share(grams: Grams, part: u64, whole: u64) -> Grams
     requires { (0 < whole) × (whole ≤ 1000000000) × (part ≤ whole) }
-    ensures { (result ≡ share x part whole) × (result ≤ x) }
+    ensures { (result.0 ≡ share grams.0 part whole) × (result.0 ≤ grams.0) }
 {
-    if x <= 10_000_000_000 {
-        return x * part / whole;
+    let Grams(x) = grams;
+    if x <= SHARED_AT_ONCE {
+        Grams(x * part / whole)
+    } else {
+        Grams(x / whole * part + x % whole * part / whole)
     }
-    x / whole * part + x % whole * part / whole
 }
 
 // The four, added.
-pub fn total(grams: [Grams; 4]) -> Grams
-    requires { total grams < 2 ^ 64 }
-    ensures { result.0 ≡ total grams }
+#[tactic(auto, unfolding(crate::specs::Pools::total))]
+pub fn total(four: [Grams; 4]) -> Grams
+    requires { total four < 2 ^ 64 }
+    ensures { result.0 ≡ total four }
 {
-    let sum = grams[0].0 + grams[1].0 + grams[2].0 + grams[3].0;
-    Grams(sum)
+    let [dpm, rpm, bio, hum] = four;
+    dpm + rpm + bio + hum
 }

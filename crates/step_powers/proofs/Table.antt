@@ -1,13 +1,15 @@
 -- The table's rule: place i is at most 1 from 4,000,000,000 × e^(-i/32), for all 240 places.
 -- One test by two sums, which end on terms 43 and 42, is computed over all places and carried to each. Assumes nothing.
-use mathlib.Core.Path.{◌≡◌, refl}
+use mathlib.Core.Path.{◌≡◌, refl, ◌∙◌, ap}
+use mathlib.Core.List.{List}
 use mathlib.Core.Bool.{Bool, ◌&&◌}
 use Prim.Native.Nat.{ℕ, ◌+◌, ◌-◌, ◌≤◌, ◌<◌}
 use native.Mathlib.Omega.{arith}
 use lib.Dec.{T, leb, leb→le, lit<}
-use lib.ListN.{length}
+use lib.ListN.{length, get_or}
 use Rattle.number_exact.specs.Exponential.{agreeing, opposing, denominator, AtMostFrom}
 use Rattle.number_exact.proofs.Tests.{below_sum, above_sum, below_by_test, above_by_test, and_left, and_right, all_pass, entry, at_most, entry_most}
+use Rattle.step_powers.specs.declared.TheConstants.{POWERS}
 use Rattle.step_powers.specs.Powers.{powers, power_at}
 
 near : ℕ → ℕ → Bool
@@ -52,3 +54,13 @@ power_least i h = leb→le 1 (power_at i) (and_left (leb 1 (power_at i)) _ (pass
 pub power_first : power_at 0 ≡ 4000000000
 unfolding powers power_at
 power_first = refl
+
+-- the code's table is the definition's, ..
+same : POWERS ≡ powers
+unfolding powers
+same = refl
+
+-- .. and so a number read from it is that of the definition
+pub power_read : {p : ℕ} (i : ℕ) → i < 240 → p ≡ get_or POWERS i 0 → (p ≡ power_at i) × AtMostFrom 1 p 4000000000 i 32
+unfolding power_at
+power_read i h is = let e = is ∙ ap (λ (t : List ℕ). get_or t i 0) same in (e, rw e (power_near i h))

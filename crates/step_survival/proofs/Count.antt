@@ -2,12 +2,15 @@
 -- the limit was not reached. Since a term after 0 is 0, two terms tell the count: one that is not 0, and the next, which is.
 -- Assumes nothing.
 use mathlib.Core.Path.{◌≡◌, refl, sym, ◌∙◌, ap}
-use mathlib.Core.List.{[]}
+use mathlib.Core.Bool.{Bool, not, cond}
+use mathlib.Core.List.{List, [], ◌∷◌}
 use Prim.Native.Nat.{ℕ, zero, suc, ◌+◌, ◌-◌, ◌*◌, ◌/◌, ◌^◌, ◌≤◌, ◌<◌}
 use native.Mathlib.Nat.{add-zero, zero-add, add-suc, suc-add, zero-mul, zero-div}
 use native.Mathlib.Omega.{arith}
 use borrow.Author.Tests.{eq-eqb, ne_eqb}
+use lib.Dec.{eqb}
 use lib.ListN.{length}
+use Rattle.std.specs.List.{prefix_len}
 use Rattle.step_survival.specs.Series.{term, terms_from, summed_terms, term_count}
 
 -- none is summed from a term on that is 0, and one more where it is not 0
@@ -16,7 +19,7 @@ unfolding terms_from
 none_more zero r k e = refl
 none_more (suc most) r k e = rw (eq-eqb (term r k) 0 e)
 
-one_more : (most r k : ℕ) → (term r k ≡ 0 → ⊥) → length (terms_from (suc most) r k) ≡ suc (length (terms_from most r (suc k)))
+pub one_more : (most r k : ℕ) → (term r k ≡ 0 → ⊥) → length (terms_from (suc most) r k) ≡ suc (length (terms_from most r (suc k)))
 unfolding terms_from
 one_more most r k some = rw (ne_eqb (term r k) 0 some)
 
@@ -68,3 +71,19 @@ ends_at r k few some next =
     let later : k ≡ n + (k - n) = omega (arith, le) in
     some (ap (term r) later ∙ zero_stays r n (k - n) there) in
     omega (arith, most, least)
+
+-- ---- the code counts the terms after the first that stand before a 0
+
+abbrev pub not_zero : ℕ → Bool
+not_zero x = not (eqb x 0)
+
+-- from a term on: it is counted where it is not 0, and then those that follow
+front : (x : ℕ) (rest terms : List ℕ) → length terms ≡ prefix_len not_zero rest
+    → length (cond (eqb x 0) [] (x ∷ terms)) ≡ prefix_len not_zero (x ∷ rest)
+front x rest terms e = zero_or x (λ z. rw (eq-eqb x 0 z)) (λ some. rw (ne_eqb x 0 some) (omega (arith, e)))
+
+pub counted_from :
+    (most r k : ℕ) (rest : List ℕ) → length (terms_from most r (suc k)) ≡ prefix_len not_zero rest
+    → length (terms_from (suc most) r k) ≡ prefix_len not_zero (term r k ∷ rest)
+unfolding terms_from
+counted_from most r k rest e = front (term r k) rest (terms_from most r (suc k)) e

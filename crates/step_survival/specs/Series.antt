@@ -7,6 +7,10 @@ unfoldable pub term : ℕ → ℕ → ℕ
 term r zero = 2 ^ 37
 term r (suc k) = term r k * r / (2 ^ 37 * suc k)
 
+-- Terms 1 to 5.
+abbrev pub later_terms : ℕ → List ℕ
+later_terms r = term r 1 ∷ term r 2 ∷ term r 3 ∷ term r 4 ∷ term r 5 ∷ []
+
 -- The terms from term k on that stand before the first 0, and at most so many.
 unfoldable pub terms_from : ℕ → ℕ → ℕ → List ℕ
 terms_from zero r k = []

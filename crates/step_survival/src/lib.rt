@@ -2,7 +2,7 @@
 #![tactic(auto)]
 
 ghost use Rattle.std.specs.Prelude.{◌≡◌, ◌+◌, ◌*◌, ◌/◌, ◌^◌, ◌≤◌, ◌<◌};
-ghost use Rattle.step_survival.specs.Series.{term, series, term_count};
+ghost use Rattle.step_survival.specs.Series.{later_terms, series, term_count};
 ghost use Rattle.step_survival.specs.Survival.{rate_number, parts, survival_at};
 ghost use Rattle.step_survival.specs.Survival.{survival_number, survival_terms, IsSurvival};
 ghost use Rattle.step_survival.specs.Served.{EveryW};
@@ -12,9 +12,12 @@ use number_units::TenThousandths;
 use step_powers::power;
 
 // 1 and 1/32 in parts of 2^37, in which w and the series are.
-const ONE: u64 = 137_438_953_472;
+const ONE: u64 = 1 << 37;
 
-const STEP: u64 = 4_294_967_296;
+const STEP: u64 = ONE / 32;
+
+// 1 in parts of 2^44, in which w is divided.
+const FINE_ONE: u64 = 1 << 44;
 
 // N, from A, B and whether a crop covers the soil.
 pub fn rate_number(crop: bool, a: TenThousandths, b: TenThousandths) -> u64
@@ -25,12 +28,13 @@ pub fn rate_number(crop: bool, a: TenThousandths, b: TenThousandths) -> u64
 }
 
 // w = N × K / 1,200,000,000,000 in parts of 2^37. N is divided first, in parts of 2^44, so that K's
-// product fits 64 bits. 1,200,000,000,000 is 2^13 × 146,484,375, and N × 2^31 fits too.
+// product fits 64 bits. 1,200,000,000,000 is 2^13 × 146,484,375, and N × 2^31 fits too. N and K have
+// no types of their own, here and in the decay: they are only multiplied, here.
 fn parts(n: u64, k: u64) -> u64
     requires { (n ≤ 8363900000) × (k ≤ 1000) }
     ensures { (result ≡ parts n 1200000000000 k) × (result < 240 * 2 ^ 32) }
 {
-    let ratio = n * 2_147_483_648 / 146_484_375;
+    let ratio = n * (FINE_ONE / 8192) / 146_484_375;
     ratio * k / 128
 }
 
@@ -42,31 +46,17 @@ fn next_term(term: u64, r: u64, k: u64) -> u64
     term * r / (ONE * k)
 }
 
-// Terms 2 to 5 of the series. Term 0 is 1, term 1 is r, and term 6 is 0.
-#[derive(Clone, Copy)]
-struct Terms {
-    second: u64,
-    third: u64,
-    fourth: u64,
-    fifth: u64,
-}
-
-// Terms 2 to 5, for an r below 1/32.
-fn later_terms(r: u64) -> Terms
+// Terms 1 to 5 of the series, for an r below 1/32. Term 0 is 1, and term 6 is 0. r has no type of
+// its own: it is p % STEP at both places where it is made, which shows the bound.
+fn later_terms(r: u64) -> [u64; 5]
     requires { r < 2 ^ 32 }
-    ensures { (result.second ≡ term r 2) × (result.third ≡ term r 3) × (result.fourth ≡ term r 4)
-        × (result.fifth ≡ term r 5) }
+    ensures { result ≡ later_terms r }
 {
     let second = next_term(r, r, 2);
     let third = next_term(second, r, 3);
     let fourth = next_term(third, r, 4);
     let fifth = next_term(fourth, r, 5);
-    Terms {
-        second,
-        third,
-        fourth,
-        fifth,
-    }
+    [r, second, third, fourth, fifth]
 }
 
 // e^(-r) in parts of 2^37.
@@ -74,8 +64,8 @@ fn sum_terms(r: u64) -> u64
     requires { r < 2 ^ 32 }
     ensures { result ≡ series r }
 {
-    let t = later_terms(r);
-    ONE + t.second + t.fourth - (r + t.third + t.fifth)
+    let [first, second, third, fourth, fifth] = later_terms(r);
+    ONE + second + fourth - (first + third + fifth)
 }
 
 // How many terms that sums: as many as stand before the first 0.
@@ -83,23 +73,8 @@ fn term_count(r: u64) -> u64
     requires { r < 2 ^ 32 }
     ensures { result ≡ term_count r }
 {
-    let t = later_terms(r);
-    if r == 0 {
-        return 1;
-    }
-    if t.second == 0 {
-        return 2;
-    }
-    if t.third == 0 {
-        return 3;
-    }
-    if t.fourth == 0 {
-        return 4;
-    }
-    if t.fifth == 0 {
-        return 5;
-    }
-    6
+    let later = later_terms(r);
+    1 + later.iter().take_while(|t| **t != 0).count() as u64
 }
 
 // power × y / 2^39 to the nearest, halves up, for a y that is little less than 2^37. The whole
@@ -109,7 +84,7 @@ fn nearest(power: u64, y: u64) -> u64
     ensures { result ≡ (power * y + 2 ^ 38) / 2 ^ 39 }
 {
     let short = (power * (ONE - y) + 127) / 128;
-    (power * 1_073_741_824 - short + 2_147_483_648) / 4_294_967_296
+    (power * (ONE / 128) - short + STEP / 2) / STEP
 }
 
 // The survival number of w in parts of 2^37, for every w below 7.5.
@@ -137,7 +112,7 @@ pub fn age_survival(years: u64) -> u64
     requires { years ≤ age_limit }
     ensures { (result ≡ age_survival years) × Ages }
 {
-    survival_at(years * 17_592_186_044_416 / 8035 / 128)
+    survival_at(years * FINE_ONE / 8035 / 128)
 }
 
 // A survival number, and how many terms were summed for it.
@@ -155,7 +130,8 @@ pub fn survival_counted(n: u64, k: u64) -> Counted
     ensures served { EveryW }
 {
     let p = parts(n, k);
-    let s = survival_at(p);
-    let terms = term_count(p % STEP);
-    Counted { survival: s, terms }
+    Counted {
+        survival: survival_at(p),
+        terms: term_count(p % STEP),
+    }
 }

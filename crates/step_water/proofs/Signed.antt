@@ -1,15 +1,15 @@
--- Signed numbers of the water step: a difference n - y of two natural numbers fits 64 bits, what clamping it gives, and
--- what a test against 0 says of a clamped number. Proved by cases of the sign, or of y as 0 or more, since `◌-ℤ◌` is.
+-- Signed numbers of the water step: a difference n - y of two natural numbers fits 64 bits, and what clamping it gives.
+-- Proved by cases of the sign, or of y as 0 or more, since `◌-ℤ◌` is.
 -- Assumes nothing.
-use mathlib.Core.Path.{◌≡◌, refl, sym}
+use mathlib.Core.Path.{◌≡◌, sym}
 use mathlib.Core.Bool.{Bool, true, false, cond}
 use Prim.Native.Nat.{ℕ, zero, suc, ◌+◌, ◌-◌, ◌<◌, ◌^◌, min}
 use native.Mathlib.Omega.{arith}
 use native.Mathlib.Decide.{dec_le}
-use borrow.Author.Tests.{le-ltb, lt-ltb, ltb-true}
-use lib.Dec.{T, ltb}
-use lib.IntN.{ℤ, pos, negsuc, neg_ℤ, nat_abs, ◌+ℤ◌, ◌-ℤ◌, +ℤ_assoc}
-use lib.Signed.{mag, lt_z, non_neg}
+use borrow.Author.Tests.{le-ltb, lt-ltb}
+use lib.Dec.{ltb}
+use lib.IntN.{ℤ, pos, negsuc, neg_ℤ, ◌+ℤ◌, ◌-ℤ◌, +ℤ_assoc}
+use lib.Signed.{mag}
 use mir.Syntax.{w64}
 use mir.Val.{SFits, to_z, of_z}
 use mir.Facts.{to_z_pos, to_z-of_z}
@@ -51,19 +51,3 @@ clamped_difference cap n (suc y) = elim (dec_le (suc y) n) [
 -- Adding d to a difference is adding it to the first number.
 pub add_difference : (d n y : ℕ) → pos d +ℤ (pos n -ℤ pos y) ≡ pos (d + n) -ℤ pos y
 add_difference d n y = sym (+ℤ_assoc (pos d) (pos n) (neg_ℤ (pos y)))
-
--- A number below 0 is raised to 0.
-pub clamped_negative : (cap : ℕ) (z : ℤ) → lt_z z (pos 0) ≡ true → clamped cap z ≡ 0
-unfolding clamped
-clamped_negative cap (pos n) t = let none : n < 0 = ltb-true n 0 t in omega arith
-clamped_negative cap (negsuc n) t = refl
-
--- A number that is not below 0 has no sign, and is lowered to the cap.
-pub not_negative : (z : ℤ) → lt_z z (pos 0) ≡ false → T (non_neg z)
-not_negative (pos n) t = tt
-not_negative (negsuc n) t = let none : ◌≡◌ {A = ℕ} 0 1 = cc in absurd (omega arith)
-
-pub clamped_not_negative : (cap : ℕ) (z : ℤ) → lt_z z (pos 0) ≡ false → clamped cap z ≡ min (nat_abs z) cap
-unfolding clamped
-clamped_not_negative cap (pos n) t = refl
-clamped_not_negative cap (negsuc n) t = cc

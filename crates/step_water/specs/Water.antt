@@ -2,6 +2,8 @@
 -- from it. Clay is in tenths of a percent, depth in cm, rain and evaporation in tenths of a
 -- millimetre, a deficit in parts.
 use Rattle.std.specs.Prelude.{ℕ, ◌+◌, ◌-◌, ◌*◌, ◌/◌, min, max, Bool, true, false, cond, ℤ, pos, negsuc, ◌+ℤ◌, ◌-ℤ◌, ltb}
+use Rattle.step_water.specs.declared.Evaporation.{Evaporation}
+use Rattle.step_water.specs.declared.Evaporation.TheVariants.{OpenPan, Potential}
 
 -- M, the largest deficit that the soil can have: 9 × depth × (200,000 + 1,300 × clay - clay²).
 unfoldable pub max_deficit : ℕ → ℕ → ℕ
@@ -10,6 +12,15 @@ max_deficit clay depth = 9 * depth * (200000 + 1300 * clay - clay * clay)
 -- The bare limit is 5/9 of M. M is a multiple of nine, so nothing is lost in the division.
 unfoldable pub bare_limit : ℕ → ℕ
 bare_limit m = 5 * m / 9
+
+-- An evaporation is from open pan, or potential (change 2026-01), and so many tenths.
+abbrev pub is_potential : Evaporation → Bool
+is_potential (OpenPan n) = false
+is_potential (Potential n) = true
+
+abbrev pub tenths : Evaporation → ℕ
+tenths (OpenPan n) = n
+tenths (Potential n) = n
 
 -- What a tenth of a millimetre of evaporation dries, in parts, by its source. A tenth of rain is
 -- 207,000 parts. Of open-pan evaporation (false) 0.75 of that counts, 155,250; of potential

@@ -1,11 +1,12 @@
 // Water, step 3 of document 01: the month's soil moisture deficit D and the rate factor B. Each
 // function is the definition of specs/Water.antt that its promise names. The bound 560,250,000 is
-// the largest M, at clay 650 and depth 100.
+// the largest M, at clay 650 and depth 100. M is in Parts and in no type with that bound of its
+// own: it is compared with deficits, and one of them is the cap, so that each use would unwrap it.
 #![tactic(auto)]
 
-ghost use Rattle.std.specs.Prelude.{◌≡◌, ◌≤◌, ◌<◌};
-ghost use Rattle.step_water.specs.Water.{max_deficit, bare_limit, tenth_dries, drying};
-ghost use Rattle.step_water.specs.Water.{deficit_cap, clamped, new_deficit};
+ghost use Rattle.std.specs.Prelude.{◌≡◌, ◌*◌, ◌≤◌, ◌<◌};
+ghost use Rattle.step_water.specs.Water.{max_deficit, bare_limit, is_potential, tenths};
+ghost use Rattle.step_water.specs.Water.{tenth_dries, drying, deficit_cap, new_deficit};
 ghost use Rattle.step_water.specs.Water.{halves_up, moisture_factor};
 
 use number_units::{Parts, TenThousandths};
@@ -26,20 +27,33 @@ fn bare_limit(m: Parts) -> Parts
     Parts(5 * m.0 / 9)
 }
 
-// What a tenth of a millimetre dries: of potential evapotranspiration, or of open pan.
-fn tenth_dries(potential: bool) -> u64
-    ensures { result ≡ tenth_dries potential }
-{
-    if potential { 207000 } else { 155250 }
+// A month's evaporation in tenths of a millimetre, by its source: of open pan, or potential
+// evapotranspiration.
+#[derive(Clone, Copy)]
+pub enum Evaporation {
+    OpenPan(u64),
+    Potential(u64),
+}
+
+impl Evaporation {
+    // What it dries, in parts.
+    fn dries(self) -> u64
+        requires { tenths self ≤ 20000 }
+        ensures { result ≡ tenth_dries (is_potential self) * tenths self }
+    {
+        match self {
+            Evaporation::OpenPan(tenths) => 155250 * tenths,
+            Evaporation::Potential(tenths) => 207000 * tenths,
+        }
+    }
 }
 
 // The month's drying: below 0 where the rain outweighs the evaporation.
-fn drying(potential: bool, evaporation: u64, rain: u64) -> i64
-    requires { (evaporation ≤ 20000) × (rain ≤ 20000) }
-    ensures { result ≡ drying potential evaporation rain }
+fn drying(evaporation: Evaporation, rain: u64) -> i64
+    requires { (tenths evaporation ≤ 20000) × (rain ≤ 20000) }
+    ensures { result ≡ drying (is_potential evaporation) (tenths evaporation) rain }
 {
-    let tenth = tenth_dries(potential);
-    (tenth * evaporation) as i64 - (207000 * rain) as i64
+    evaporation.dries() as i64 - (207000 * rain) as i64
 }
 
 // The cap on the deficit after the month, d being the deficit before it.
@@ -48,39 +62,22 @@ fn deficit_cap(crop: bool, m: Parts, d: Parts) -> Parts
     ensures { result.0 ≡ deficit_cap crop m.0 d.0 }
 {
     if crop {
-        return m;
+        m
+    } else {
+        Parts(d.0.max(bare_limit(m).0))
     }
-    let limit = bare_limit(m);
-    if limit.0 < d.0 { d } else { limit }
-}
-
-// A signed number, raised to 0 or lowered to the cap.
-fn clamp(cap: u64, z: i64) -> u64
-    ensures { result ≡ clamped cap z }
-{
-    if z < 0 {
-        return 0;
-    }
-    let n = z as u64;
-    if n < cap { n } else { cap }
 }
 
 // The deficit after the month, d being the deficit before it.
-pub fn new_deficit(
-    crop: bool,
-    m: Parts,
-    d: Parts,
-    potential: bool,
-    evaporation: u64,
-    rain: u64,
-) -> Parts
+pub fn new_deficit(crop: bool, m: Parts, d: Parts, evaporation: Evaporation, rain: u64) -> Parts
     requires { (m.0 ≤ 560250000) × (d.0 ≤ 560250000)
-        × (evaporation ≤ 20000) × (rain ≤ 20000) }
-    ensures { result.0 ≡ new_deficit crop m.0 d.0 potential evaporation rain }
+        × (tenths evaporation ≤ 20000) × (rain ≤ 20000) }
+    ensures { result.0
+        ≡ new_deficit crop m.0 d.0 (is_potential evaporation) (tenths evaporation) rain }
 {
     let cap = deficit_cap(crop, m, d);
-    let dried = d.0 as i64 + drying(potential, evaporation, rain);
-    Parts(clamp(cap.0, dried))
+    let dried = d.0 as i64 + drying(evaporation, rain);
+    Parts(dried.clamp(0, cap.0 as i64) as u64)
 }
 
 // n / d rounded to the nearest whole number, halves up.
@@ -96,10 +93,8 @@ pub fn moisture_factor(m: Parts, d: Parts) -> TenThousandths
     requires { (0 < m.0) × (m.0 ≤ 560250000) × (d.0 ≤ m.0) }
     ensures { result.0 ≡ moisture_factor m.0 d.0 }
 {
-    let largest = m.0;
-    let deficit = d.0;
-    if 1000 * deficit < 444 * largest {
+    if 1000 * d.0 < 444 * m.0 {
         return TenThousandths(10000);
     }
-    TenThousandths(2000 + halves_up(8000000 * (largest - deficit), 556 * largest))
+    TenThousandths(2000 + halves_up(8000000 * (m.0 - d.0), 556 * m.0))
 }

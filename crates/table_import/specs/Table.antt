@@ -1,23 +1,20 @@
 -- Weather office tables, change 2026-01 of document 02: bytes in, weather rows of four numbers to a
 -- lent output. A byte is a number, a text a list of bytes.
-use Rattle.std.specs.Prelude.{Bool, ◌||◌, List, [], ◌∷◌, ◌++◌, ℕ, ◌*◌, ltb, ℤ, pos, length}
-use Rattle.month_refusals.specs.declared.NumberAndPlace.{NumberAndPlace}
-use Rattle.month_refusals.specs.declared.Check.{Check}
-use Rattle.month_refusals.specs.declared.Check.TheVariants.{Pass, Refuse}
+use Rattle.std.specs.Prelude.{Bool, ◌||◌, List, [], ◌∷◌, ◌++◌, Result, Ok, Err, ℕ, ◌*◌, ltb, ℤ, pos}
+use Rattle.std.specs.Prelude.{length}
 use Rattle.month_refusals.specs.declared.Refusal.{Refusal}
 use Rattle.month_refusals.specs.declared.Refusal.TheVariants.{Rows, Room, TableForm}
-use Rattle.month_refusals.specs.Asked.{Asked, ◌if◌, first_of, Placed, at, Found, nothing, refused}
-use Rattle.month_refusals.specs.Asked.{number_and_place}
+use Rattle.month_refusals.specs.declared.RefusedAt.{RefusedAt}
+use Rattle.month_refusals.specs.Asked.{Asked, ◌if◌, Check, first_of, Placed, at, ◌on◌}
 use Rattle.list_rows.specs.Rows.{weather_width}
 use Rattle.book_digits.specs.Digits.{overwritten}
-use Rattle.book_rows.specs.declared.RowsEnd.{RowsEnd}
-use Rattle.book_rows.specs.declared.RowsEnd.TheVariants as ends
-use Rattle.book_rows.specs.declared.WeatherRow.{WeatherRow}
-use Rattle.book_rows.specs.Rows.{as_weather, weather_gives, RowsRead, read_rows}
+use Rattle.book_rows.specs.Rows.{WeatherRow, as_weather, weather_gives, RowsEnd, RowsRead, read_rows}
 use Rattle.book_rows.specs.RowsAsked.{weather_asked_from}
 use Rattle.table_lines.specs.Lines.{table_line, line_count}
-use Rattle.table_import.specs.declared.TableAnswer.{TableAnswer}
-use Rattle.table_import.specs.declared.TableAnswer.TheVariants.{Read, Refused}
+
+-- A table's answer: how many rows it has, or why it is refused, and the line (0 for 3 and 8).
+abbrev pub TableAnswer : Type 0
+TableAnswer = Result ℕ RefusedAt
 
 -- ---- the lines
 
@@ -57,30 +54,22 @@ pub record TableLeft : Type 0 where
 
 -- A refused table leaves the output as it was.
 abbrev pub refused_at : Refusal → ℕ → List ℤ → TableLeft
-refused_at refusal place out = record { answer = Refused refusal place; output = out }
+refused_at refusal place out = record { answer = Err (refusal on place); output = out }
 
 -- After the lines: their rows at the start of the output, where what lies past them stays; or the
 -- refusal of a line.
 abbrev pub after_lines : RowsEnd → ℕ → List ℤ → List ℤ → TableLeft
-after_lines (ends.Next place) lines numbers out =
-    record { answer = Read lines; output = overwritten out 0 numbers }
-after_lines (ends.Refused refusal line) lines numbers out = refused_at refusal line out
+after_lines (Ok place) lines numbers out =
+    record { answer = Ok lines; output = overwritten out 0 numbers }
+after_lines (Err e) lines numbers out = refused_at e.refusal e.place out
 
 -- Refused before the lines, or what the lines leave.
 abbrev pub table_checked : Check → List ℤ → TableLeft → TableLeft
-table_checked Pass out later = later
-table_checked (Refuse refusal) out later = refused_at refusal 0 out
+table_checked (Ok _) out later = later
+table_checked (Err refusal) out later = refused_at refusal 0 out
 
 unfoldable pub table_of : List ℕ → List ℤ → TableLeft
 table_of s out =
     table_checked (first_of (before_lines (line_count s) (length out))) out
     (after_lines (read_table (line_count s) s).ends (line_count s)
     (read_table (line_count s) s).numbers out)
-
--- What a table's answer says is found, and the papers' number and place of it.
-abbrev pub table_found : TableAnswer → Found
-table_found (Read rows) = nothing
-table_found (Refused refusal place) = refused refusal place
-
-abbrev pub table_told : TableAnswer → NumberAndPlace
-table_told answer = number_and_place (table_found answer)

@@ -1,6 +1,7 @@
 -- ONLY SO: a text that is read is the table of rows that pass, and is read as these: no other form is taken. What is not read is
 -- refused by one of 3, 8, 18, 13 and 14, and leaves the output as it was.
 -- Assumes nothing.
+use Rattle.std.specs.Prelude.{Ok, Err}
 use mathlib.Core.Path.{◌≡◌, refl, sym, ◌∙◌, ap}
 use mathlib.Core.Bool.{true}
 use mathlib.Core.List.{List, [], ◌++◌, append-nil}
@@ -9,10 +10,9 @@ use native.Mathlib.Omega.{arith}
 use lib.IntN.{ℤ, pos}
 use lib.ListN.{length, drop}
 use Rattle.month_state.specs.declared.Weather.{Weather}
-use Rattle.month_refusals.specs.declared.Check.{Check}
-use Rattle.month_refusals.specs.declared.Check.TheVariants.{Pass, Refuse}
 use Rattle.month_refusals.specs.declared.Refusal.{Refusal}
-use Rattle.month_refusals.specs.Asked.{first_of}
+use Rattle.month_refusals.specs.declared.RefusedAt.{RefusedAt}
+use Rattle.month_refusals.specs.Asked.{Check, first_of, ◌on◌}
 use Rattle.month_refusals.proofs.First.{finds_own}
 use Rattle.list_rows.specs.Rows.{weather_numbers}
 use Rattle.book_rows.specs.Rows.{RowsRead}
@@ -20,7 +20,6 @@ use Rattle.book_rows.specs.RowText.{lines_from, SoundFrom, Counted}
 use Rattle.book_rows.proofs.RowKinds.{LinesAre, written, other, rows_only}
 use Rattle.table_lines.specs.Lines.{line_count}
 use Rattle.table_lines.proofs.Laws.{count_none}
-use Rattle.table_import.specs.declared.TableAnswer.TheVariants.{Read, Refused}
 use Rattle.table_import.specs.Table.{read_table, before_lines, TableLeft, refused_at, after_lines, table_checked, table_of}
 use Rattle.table_import.proofs.Laws.{roomy}
 use Rattle.table_laws.specs.TableText.{table_line_of, table_text, TableRows, read_as, Written, refuses_table}
@@ -36,10 +35,10 @@ data Ends (s : List ℕ) (out : List ℤ) : TableLeft → Type 0 where
 module _ (s : List ℕ) (out : List ℤ) where
   by_check :
       (check : Check) (later : TableLeft) → first_of (before_lines (line_count s) (length out)) ≡ check
-      → (check ≡ Pass → Ends s out later) → Ends s out (table_checked check out later)
+      → (check ≡ Ok tt → Ends s out later) → Ends s out (table_checked check out later)
   unfolding before_lines
-  by_check Pass later is rest = rest refl
-  by_check (Refuse r) later is rest = refused (finds_own refuses_table (before_lines (line_count s) (length out)) refl is)
+  by_check (Ok _) later is rest = rest refl
+  by_check (Err r) later is rest = refused (finds_own refuses_table (before_lines (line_count s) (length out)) refl is)
 
   -- After as many lines as the text has, nothing is left of it.
   whole-text :
@@ -66,24 +65,25 @@ module _ (s : List ℕ) (out : List ℤ) where
       by_lines (rows_only table_kind (line_count s) s 0 1) refl (record { least = r.least; most = r.most }))
 
   -- A table that is read.
-  pub only_so : (rows : ℕ) → (table_of s out).answer ≡ Read rows → Written s out
+  pub only_so : (rows : ℕ) → (table_of s out).answer ≡ Ok rows → Written s out
   only_so rows h = of_ends table_ends refl h
     where
-      of_ends : {left : TableLeft} → Ends s out left → table_of s out ≡ left → left.answer ≡ Read rows → Written s out
+      of_ends : {left : TableLeft} → Ends s out left → table_of s out ≡ left → left.answer ≡ Ok rows → Written s out
       of_ends (read xs good text) is h = record { rows = xs; good = good; text = text; left = is }
       of_ends (refused own) is h = absurd (let z : ◌≡◌ {A = ℕ} 0 1 = cc in omega arith)
 
   -- One that is refused.
   pub refused_so :
-      (r : Refusal) (place : ℕ) → (table_of s out).answer ≡ Refused r place
+      (r : Refusal) (place : ℕ) → (table_of s out).answer ≡ Err (r on place)
       → (refuses_table r ≡ true) × (table_of s out ≡ refused_at r place out)
   refused_so r place h = of_ends table_ends refl h
     where
       of_ends :
-          {left : TableLeft} → Ends s out left → table_of s out ≡ left → left.answer ≡ Refused r place
+          {left : TableLeft} → Ends s out left → table_of s out ≡ left → left.answer ≡ Err (r on place)
           → (refuses_table r ≡ true) × (table_of s out ≡ refused_at r place out)
       of_ends (read xs good text) is h = absurd (let z : ◌≡◌ {A = ℕ} 0 1 = cc in omega arith)
       of_ends (refused {r = reason} {place = found} own) is h =
-          let same : reason ≡ r = cc in
-          let there : found ≡ place = cc in
+          let both : (reason on found) ≡ (r on place) = cc in
+          let same : reason ≡ r = ap (λ (e : RefusedAt). e.refusal) both in
+          let there : found ≡ place = ap (λ (e : RefusedAt). e.place) both in
           (rw (sym same) own, is ∙ rw (same, there))

@@ -1,6 +1,7 @@
 -- ROUND TRIP: a table written from rows that pass is read as exactly those rows. So two such tables with the same text are the same
 -- rows.
 -- Assumes nothing.
+use Rattle.std.specs.Prelude.{Ok}
 use mathlib.Core.Path.{◌≡◌, refl, sym, ◌∙◌, ap, ap₂}
 use mathlib.Core.List.{List, [], flat_map, append-nil}
 use Prim.Native.Nat.{ℕ, ◌+◌, ◌*◌, ◌^◌, ◌≤◌}
@@ -9,12 +10,10 @@ use borrow.Author.Tests.{le-ltb}
 use lib.IntN.{ℤ}
 use lib.ListN.{length}
 use Rattle.month_state.specs.declared.Weather.{Weather}
-use Rattle.month_state.proofs.Tests.{false_either}
-use Rattle.month_refusals.specs.declared.Check.TheVariants.{Pass}
+use Rattle.std.proofs.lemmas.Bool.{or_from}
 use Rattle.month_refusals.specs.Asked.{first_of}
 use Rattle.month_refusals.proofs.First.{one_passes}
 use Rattle.list_rows.specs.Rows.{weather_width, weather_numbers}
-use Rattle.book_rows.specs.declared.RowsEnd.TheVariants.{Next}
 use Rattle.book_rows.specs.RowText.{Counted}
 use Rattle.book_rows.proofs.RowKinds.{rows_back, rows_same}
 use Rattle.table_lines.specs.Lines.{line_count}
@@ -30,16 +29,16 @@ text_lines rows =
     ap line_count (sym (append-nil _)) ∙ lines_counted rows 1 [] ∙ omega (arith, count_empty)
 
 -- 3 and 8 let from 1 to 1,200 lines pass, with room for four numbers each.
-passes : (lines room : ℕ) → Counted lines → weather_width * lines ≤ room → first_of (before_lines lines room) ≡ Pass
+passes : (lines room : ℕ) → Counted lines → weather_width * lines ≤ room → first_of (before_lines lines room) ≡ Ok tt
 unfolding first_of before_lines lines_outside
 passes lines room counted enough =
-    one_passes _ (false_either (le-ltb lines 1 counted.least) (le-ltb 1200 lines counted.most)) (one_passes _ (le-ltb _ _ enough) refl)
+    one_passes _ (or_from _ _ (le-ltb lines 1 counted.least) (le-ltb 1200 lines counted.most)) (one_passes _ (le-ltb _ _ enough) refl)
 
 -- Its lines are read as its rows, to their end.
 reads :
     (rows : List Weather) → TableRows rows
     → ((read_table (length rows) (table_text rows)).numbers ≡ flat_map weather_numbers rows)
-    × ((read_table (length rows) (table_text rows)).ends ≡ Next (0 + length (table_text rows)))
+    × ((read_table (length rows) (table_text rows)).ends ≡ Ok (0 + length (table_text rows)))
 unfolding read_table table_text
 reads rows good =
     let few : 1 + length rows ≤ 10 ^ 10 = omega (arith, good.count.most) in

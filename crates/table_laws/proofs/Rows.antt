@@ -24,7 +24,8 @@ table_text_lem : WeatherText TableForm (pos 1) table_line table_line_text refuse
 unfolding weather_asked source_outside
 table_text_lem =
     record {
-      reads = λ s at number temperature rain evaporation next e. (table_read s at number temperature rain evaporation next e).text;
+      reads = λ s at number temperature rain evaporation next e.
+          (table_read s at number (record { temperature = temperature; rain = rain; evaporation = evaporation }) next e).text;
       rounds = λ s at number temperature rain evaporation rest few t r v e.
           table_round number temperature rain evaporation s at rest few (omega arith) (omega arith) (omega arith) e;
       form = refl;

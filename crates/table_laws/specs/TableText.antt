@@ -1,6 +1,6 @@
 -- Tables as they are written, change 2026-01 of document 02: "text lines of
 -- month;temperature;rain;evapotranspiration, the month counting 1, 2, 3 from the first line".
-use Rattle.std.specs.Prelude.{◌≡◌, Bool, ◌||◌, ℕ, eqb, ℤ, pos, nat_abs, length}
+use Rattle.std.specs.Prelude.{◌≡◌, Bool, ◌||◌, Ok, ℕ, eqb, ℤ, pos, nat_abs, length}
 use mathlib.Core.List.{List, flat_map}
 use Rattle.month_state.specs.declared.Weather.{Weather}
 use Rattle.month_refusals.specs.declared.Refusal.{Refusal}
@@ -9,7 +9,6 @@ use Rattle.list_rows.specs.Rows.{weather_numbers}
 use Rattle.book_digits.specs.Digits.{overwritten}
 use Rattle.book_rows.specs.RowText.{lines_from, Each, SoundFrom, Counted}
 use Rattle.table_lines.specs.LineText.{table_line_text}
-use Rattle.table_import.specs.declared.TableAnswer.TheVariants.{Read}
 use Rattle.table_import.specs.Table.{TableLeft, table_of}
 
 -- A row's line, the month being the line's number.
@@ -32,7 +31,7 @@ pub record TableRows (rows : List Weather) : Type 0 where
 abbrev pub read_as : List Weather → List ℤ → TableLeft
 read_as rows out =
     record {
-      answer = Read (length rows);
+      answer = Ok (length rows);
       output = overwritten out 0 (flat_map weather_numbers rows);
     }
 

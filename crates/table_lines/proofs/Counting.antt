@@ -1,7 +1,10 @@
 -- How many lines a text has: what each byte adds, on the way and at the end, and that a line's text adds one.
 -- Assumes nothing.
+use Rattle.std.specs.Prelude.{None, Some, slice_get}
+use Rattle.std.proofs.lemmas.Option.{none-some, get_or_from_slice_get, slice_get-get_or}
+use Rattle.std.proofs.lemmas.List.Sums.{sum_by-cons, sum_by-append, count_by-le-length}
 use mathlib.Core.Path.{◌≡◌, refl, sym, ◌∙◌, ap}
-use mathlib.Core.Bool.{not}
+use mathlib.Core.Bool.{not, cond}
 use mathlib.Core.List.{List, [], ◌∷◌, ◌++◌, append-nil}
 use mathlib.Core.Logic.{◌⊎◌, inl, inr}
 use Prim.Native.Nat.{ℕ, zero, suc, ◌+◌, ◌-◌, ◌/◌, ◌%◌, ◌≤◌, ◌<◌}
@@ -9,12 +12,11 @@ use native.Mathlib.Omega.{arith}
 use borrow.Author.Tests.{eq-eqb, ne_eqb, eqb-true, eqb-false}
 use lib.Dec.{eqb}
 use lib.IntN.{ℤ, pos, negsuc}
-use lib.ListN.{length, get_or, drop, length-append, drop_of_length-le}
+use lib.ListN.{length, get_or, length-append}
 use lib.Seq.{get_or-append-add}
 use Rattle.book_digits.specs.Digits.{decimal, line_end}
 use Rattle.book_digits.proofs.Digits.{Digits, none, more, Form, form, decimal_small}
 use Rattle.book_values.proofs.Reading.{either}
-use Rattle.book_values.proofs.Texts.{byte_there}
 use Rattle.table_lines.specs.Lines.{line_ends, bytes_after, line_count}
 use Rattle.table_lines.specs.LineText.{tenths_text, signed_tenths_text}
 
@@ -35,34 +37,34 @@ ends_empty = refl
 -- A byte adds one where it is byte 10, and nothing where it is another.
 pub end_adds : (byte : ℕ) (bytes : List ℕ) → byte ≡ 10 → line_ends (byte ∷ bytes) ≡ 1 + line_ends bytes
 unfolding line_ends
-end_adds byte bytes e = rw (eq-eqb byte 10 e)
+end_adds byte bytes e =
+    let one : cond (eqb byte 10) 1 0 ≡ 1 = rw (eq-eqb byte 10 e) in
+    sum_by-cons (λ x. cond (eqb x 10) 1 0) byte bytes ∙ ap (λ (k : ℕ). k + line_ends bytes) one
 
 pub other_adds : (byte : ℕ) (bytes : List ℕ) → (byte ≡ 10 → ⊥) → line_ends (byte ∷ bytes) ≡ line_ends bytes
 unfolding line_ends
-other_adds byte bytes e = rw (ne_eqb byte 10 e) (omega arith)
+other_adds byte bytes e =
+    let none : cond (eqb byte 10) 1 0 ≡ 0 = rw (ne_eqb byte 10 e) in
+    sum_by-cons (λ x. cond (eqb x 10) 1 0) byte bytes ∙ ap (λ (k : ℕ). k + line_ends bytes) none ∙ omega arith
 
 ends-append : (xs ys : List ℕ) → line_ends (xs ++ ys) ≡ line_ends xs + line_ends ys
 unfolding line_ends
-ends-append [] ys = omega arith
-ends-append (byte ∷ xs) ys = omega (arith, ends-append xs ys)
+ends-append xs ys = sum_by-append (λ x. cond (eqb x 10) 1 0) xs ys
 
 pub none_joined : (xs ys : List ℕ) → line_ends xs ≡ 0 → line_ends ys ≡ 0 → line_ends (xs ++ ys) ≡ 0
 none_joined xs ys e f = omega (arith, ends-append xs ys)
 
 -- There are at most as many as bytes; fewer where a byte is another; and some where one is there.
-pub ends-most : (s : List ℕ) → line_ends s ≤ length s
-ends-most [] = rw ends_empty (omega arith)
-ends-most (byte ∷ s) = elim (is_end byte) [
-  | inl e ↦ omega (arith, end_adds byte s e, ends-most s)
-  | inr e ↦ omega (arith, other_adds byte s e, ends-most s)
-]
+pub ends_most : (s : List ℕ) → line_ends s ≤ length s
+unfolding line_ends
+ends_most s = count_by-le-length (λ byte. eqb byte 10) s
 
 pub ends-fewer : (s : List ℕ) (k : ℕ) → k < length s → (get_or s k 10 ≡ 10 → ⊥) → line_ends s < length s
 ends-fewer [] k h e = absurd (omega arith)
-ends-fewer (byte ∷ s) zero h e = omega (arith, other_adds byte s e, ends-most s)
+ends-fewer (byte ∷ s) zero h e = omega (arith, other_adds byte s e, ends_most s)
 ends-fewer (byte ∷ s) (suc k) h e = elim (is_end byte) [
   | inl b ↦ omega (arith, end_adds byte s b, ends-fewer s k (omega arith) e)
-  | inr b ↦ omega (arith, other_adds byte s b, ends-most s)
+  | inr b ↦ omega (arith, other_adds byte s b, ends_most s)
 ]
 
 pub ends_some : (s : List ℕ) (k : ℕ) → k < length s → get_or s k 10 ≡ 10 → 0 < line_ends s
@@ -72,46 +74,6 @@ ends_some (byte ∷ s) (suc k) h e = elim (is_end byte) [
   | inl b ↦ omega (arith, end_adds byte s b)
   | inr b ↦ omega (arith, other_adds byte s b, ends_some s k (omega arith) e)
 ]
-
--- Within a list it doesn't matter what stands for a missing byte.
-default : (s : List ℕ) (k d e : ℕ) → k < length s → get_or s k d ≡ get_or s k e
-default [] k d e h = absurd (omega arith)
-default (byte ∷ s) zero d e h = refl
-default (byte ∷ s) (suc k) d e h = default s k d e (omega arith)
-
-empty_list : (s : List ℕ) → length s ≤ 0 → s ≡ []
-empty_list [] h = refl
-empty_list (byte ∷ s) h = absurd (omega arith)
-
--- ---- a count on the way: the bytes 10 that were counted and those that are left are all of them
-
-pub record Counting (s : List ℕ) (ends i : ℕ) : Type 0 where
-  pub within : i ≤ length s
-  pub all : ends + line_ends (drop i s) ≡ line_ends s
-
-pub begun : (s : List ℕ) → Counting s 0 0
-begun s = record { within = omega arith; all = omega arith }
-
-module _ (s : List ℕ) (ends i : ℕ) (c : Counting s ends i) (h : i < length s) where
-  left : drop i s ≡ get_or s i 0 ∷ drop (i + 1) s
-  left = byte_there s i h
-
-  pub end_counted : get_or s i 0 ≡ 10 → Counting s (ends + 1) (i + 1)
-  end_counted e =
-      let here : line_ends (drop i s) ≡ 1 + line_ends (drop (i + 1) s) = ap line_ends left ∙ end_adds _ _ e in
-      record { within = omega arith; all = omega (arith, c.all) }
-
-  pub other_passed : (get_or s i 0 ≡ 10 → ⊥) → Counting s ends (i + 1)
-  other_passed e =
-      let here : line_ends (drop i s) ≡ line_ends (drop (i + 1) s) = ap line_ends left ∙ other_adds _ _ e in
-      record { within = omega arith; all = omega (arith, c.all) }
-
-pub counting_most : (s : List ℕ) (ends i : ℕ) → Counting s ends i → ends ≤ length s
-counting_most s ends i c = omega (arith, c.all, ends-most s)
-
-pub counted : (s : List ℕ) (ends i : ℕ) → Counting s ends i → length s ≤ i → ends ≡ line_ends s
-counted s ends i c h =
-    let past : line_ends (drop i s) ≡ 0 = ap line_ends (drop_of_length-le s h) ∙ ends_empty in omega (arith, c.all)
 
 -- ---- the bytes after the last byte 10
 
@@ -124,21 +86,22 @@ pub count_open : (s : List ℕ) → (get_or s (length s - 1) 10 ≡ 10 → ⊥) 
 unfolding line_count bytes_after
 count_open s e = rw (ne_eqb (get_or s (length s - 1) 10) 10 e)
 
--- A count at its end: the bytes 10, and one more where the last byte is another.
-module _ (s : List ℕ) (ends i : ℕ) (c : Counting s ends i) (done : length s ≤ i) where
-  pub none_there : i ≡ 0 → 0 ≡ line_count s
-  none_there e = sym (ap line_count (empty_list s (omega arith)) ∙ count-ended [] refl ∙ ends_empty)
+-- The same by the last byte that was found.
+module _ (s : List ℕ) (last : ℕ) (there : Some last ≡ slice_get s (length s - 1)) where
+  found_is : get_or s (length s - 1) 10 ≡ last
+  found_is = get_or_from_slice_get s (length s - 1) last 10 (sym there)
 
-  last_is : 0 < i → get_or s (i - 1) 0 ≡ get_or s (length s - 1) 10
-  last_is h =
-      ap (λ (k : ℕ). get_or s (k - 1) 0) (omega arith) ∙ default s (length s - 1) 0 10 (omega arith)
+  pub last_ended : last ≡ 10 → line_ends s ≡ line_count s
+  last_ended e = sym (count-ended s (found_is ∙ e))
 
-  pub ended_there : 0 < i → get_or s (i - 1) 0 ≡ 10 → ends ≡ line_count s
-  ended_there h e = counted s ends i c done ∙ sym (count-ended s (sym (last_is h) ∙ e))
+  pub last_open : (last ≡ 10 → ⊥) → line_ends s + 1 ≡ line_count s
+  last_open e = sym (count_open s (λ l. e (sym found_is ∙ l)))
 
-  pub open_there : 0 < i → (get_or s (i - 1) 0 ≡ 10 → ⊥) → ends + 1 ≡ line_count s
-  open_there h e =
-      ap (λ (k : ℕ). k + 1) (counted s ends i c done) ∙ sym (count_open s (λ l. e (last_is h ∙ l)))
+pub no_last : (s : List ℕ) → None ≡ slice_get s (length s - 1) → line_ends s ≡ line_count s
+no_last [] e = sym (count-ended [] refl)
+no_last (byte ∷ s) e =
+    let place : ℕ = length (byte ∷ s) - 1 in
+    absurd (none-some _ (e ∙ slice_get-get_or (byte ∷ s) place 0 (omega arith)))
 
 -- After a line's end the bytes are those of the rest.
 last_append : (xs ys : List ℕ) → 0 < length ys →

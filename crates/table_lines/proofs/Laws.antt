@@ -1,5 +1,8 @@
 -- The laws of a table's lines, for the crates above: a line as it is written is read back, a line that is read stands in the
 -- text as it would be written, and a line's text adds one to the count of lines. Assumes nothing.
+use Rattle.std.specs.Prelude.{Option, None, Some}
+use Rattle.std.proofs.lemmas.Option.{none-some, some_pair_parts}
+use Rattle.book_lines.specs.declared.WeatherNumbers.{WeatherNumbers}
 use mathlib.Core.Path.{◌≡◌, refl, sym, ◌∙◌, ap, subst}
 use mathlib.Core.Bool.{true}
 use mathlib.Core.List.{List, [], ◌∷◌, ◌++◌, append_assoc}
@@ -13,20 +16,18 @@ use lib.IntN.{ℤ, nat_abs}
 use lib.ListN.{length, get_or, drop, length-append}
 use lib.Seq.{append_snoc}
 use Rattle.book_digits.specs.Digits.{decimal, line_end}
-use Rattle.book_values.specs.declared.Value.{Value}
 use Rattle.book_values.specs.Values.{read_value}
 use Rattle.book_values.proofs.Reading.{digit_above}
-use Rattle.book_values.proofs.Texts.{after, PartRead, none_found, tested}
+use Rattle.book_values.proofs.Texts.{after, PartRead, tested}
 use Rattle.book_values.proofs.Laws.{ValueRead, value_read, value_round}
-use Rattle.book_lines.specs.declared.WeatherLine.{WeatherLine}
 use Rattle.book_lines.specs.Lines.{ended}
 use Rattle.book_lines.proofs.Parts.{end_read, end_round}
-use Rattle.book_lines.proofs.Numbers.{value_cases, first_cases}
+use Rattle.book_lines.proofs.Numbers.{value_cases}
 use Rattle.table_lines.specs.Lines.{next_tenths, next_signed, numbered, table_line}
 use Rattle.table_lines.specs.Lines.{line_ends, line_count}
 use Rattle.table_lines.specs.LineText.{tenths_text, signed_tenths_text, table_line_text}
 use Rattle.table_lines.proofs.Tenths.{next_read, next_round, next_signed_read, next_signed_round}
-use Rattle.table_lines.proofs.Counting.{is_end, ends_empty, other_adds, ends-most, ends-fewer, ends_some}
+use Rattle.table_lines.proofs.Counting.{is_end, ends_empty, other_adds, ends_most, ends-fewer, ends_some}
 use Rattle.table_lines.proofs.Counting.{count-ended, count_open}
 use Rattle.table_lines.proofs.Counting.{ends-decimal, ends_tenths, ends_signed, none_joined, line_counted}
 
@@ -42,16 +43,15 @@ pub record TableRead (s : List ℕ) (at number : ℕ) (temperature : ℤ) (rain 
   pub within : next ≤ length s
 
 -- A month that was read is the line's number.
-month_read : (s : List ℕ) (at number : ℕ) (v : Value) (n next : ℕ) → read_value s at ≡ v →
-    numbered number v ≡ Value.Number n next → ValueRead s at number next
+month_read : (s : List ℕ) (at number : ℕ) (v : Option (ℕ × ℕ)) (n next : ℕ) → read_value s at ≡ v →
+    numbered number v ≡ Some (n, next) → ValueRead s at number next
 unfolding numbered
-month_read s at number (Value.Number m k) n next value e =
-    let found : (eqb m number ≡ true) × (Value.Number m k ≡ Value.Number n next) = tested _ none_found e in
-    let same : Value.Number m k ≡ Value.Number n next = found.1 in
-    let ends : k ≡ next = cc in
+month_read s at number (Some (m, k)) n next value e =
+    let found : (eqb m number ≡ true) × (Some (m, k) ≡ Some (n, next)) = tested _ e in
+    let same = some_pair_parts m n k next found.1 in
     let is : m ≡ number = eqb-true m number found.0 in
-    value_read s at number next (value ∙ cc)
-month_read s at number Value.Malformed n next value e = absurd (none_found e)
+    value_read s at number next (value ∙ rw (is, same.1) refl)
+month_read s at number None n next value e = absurd (none-some (n, next) e)
 
 -- A line's parts one after another.
 parts : (a b c d e f : List ℕ) → (a ++ b ++ c ++ d ++ e) ++ f ≡ a ++ (b ++ (c ++ (d ++ e ++ f)))
@@ -61,17 +61,16 @@ ends : (at : ℕ) (a b c d : List ℕ) →
     at + length a + length b + length c + length d + 1 ≡ at + length (a ++ b ++ c ++ d ++ line_end)
 ends at a b c d = simp length-append (omega arith)
 
--- Every line is malformed or so.
-abbrev Table : List ℕ → ℕ → ℕ → WeatherLine → Type 0
-Table s at number (WeatherLine.Row temperature rain evapotranspiration next) =
-    TableRead s at number temperature rain evapotranspiration next
-Table s at number WeatherLine.Malformed = Unit {0}
+-- Every line has no numbers, or is so.
+abbrev Table : List ℕ → ℕ → ℕ → Option (WeatherNumbers × ℕ) → Type 0
+Table s at number (Some (x, next)) = TableRead s at number x.temperature x.rain x.evaporation next
+Table s at number None = Unit {0}
 
 table_any : (s : List ℕ) (at number : ℕ) → Table s at number (table_line s at number)
 unfolding table_line table_line_text
 table_any s at number =
     value_cases (Table s at number) (numbered number (read_value s at)) tt (λ n a month.
-    first_cases (Table s at number) (next_signed s a) tt (λ z b signed.
+    value_cases (Table s at number) (next_signed s a) tt (λ z b signed.
     value_cases (Table s at number) (next_tenths s b) tt (λ r c rain.
     value_cases (Table s at number) (ended s (next_tenths s c)) tt (λ e next last.
     let m : ValueRead s at number a = month_read s at number (read_value s at) n a refl month in
@@ -92,18 +91,19 @@ table_any s at number =
       within = l.within;
     }))))
 
-pub table_read : (s : List ℕ) (at number : ℕ) (temperature : ℤ) (rain evapotranspiration next : ℕ) →
-    table_line s at number ≡ WeatherLine.Row temperature rain evapotranspiration next →
-    TableRead s at number temperature rain evapotranspiration next
-table_read s at number temperature rain evapotranspiration next e = subst (Table s at number) e (table_any s at number)
+pub table_read : (s : List ℕ) (at number : ℕ) (x : WeatherNumbers) (next : ℕ) → table_line s at number ≡ Some (x, next) →
+    TableRead s at number x.temperature x.rain x.evaporation next
+table_read s at number x next e = subst (Table s at number) e (table_any s at number)
 
 -- ROUND TRIP of a line.
 pub table_round : (number : ℕ) (temperature : ℤ) (rain evapotranspiration : ℕ) (s : List ℕ) (at : ℕ) (rest : List ℕ) →
     number < 10 ^ 10 → nat_abs temperature < 10 ^ 11 → rain < 10 ^ 11 → evapotranspiration < 10 ^ 11 →
     drop at s ≡ table_line_text number temperature rain evapotranspiration ++ rest →
     table_line s at number
-    ≡ WeatherLine.Row temperature rain evapotranspiration
-    (at + length (table_line_text number temperature rain evapotranspiration))
+    ≡ Some (
+      record { temperature = temperature; rain = rain; evaporation = evapotranspiration },
+      at + length (table_line_text number temperature rain evapotranspiration),
+    )
 unfolding numbered table_line table_line_text
 table_round number temperature rain evapotranspiration s at rest hn ht hr he e =
     let signed : List ℕ = 59 ∷ signed_tenths_text temperature in
@@ -128,7 +128,7 @@ table_round number temperature rain evapotranspiration s at rest hn ht hr he e =
       next_round rain s b from-c hr text-b,
       end_round s (next_tenths s c) evapotranspiration d rest (next_round evapotranspiration s c (10 ∷ rest) he text-c) text-d,
     )
-    (ap (WeatherLine.Row temperature rain evapotranspiration) (ends at (decimal number) signed second third))
+    (ap (λ (k : ℕ). Some (record { temperature = temperature; rain = rain; evaporation = evapotranspiration }, k)) (ends at (decimal number) signed second third))
 
 -- ---- how many lines
 
@@ -166,6 +166,6 @@ count_most [] = rw count_empty (omega arith)
 count_most (byte ∷ s) =
     let place : ℕ = length (byte ∷ s) - 1 in
     elim (is_end (get_or (byte ∷ s) place 10)) [
-      | inl last ↦ omega (arith, count-ended (byte ∷ s) last, ends-most (byte ∷ s))
+      | inl last ↦ omega (arith, count-ended (byte ∷ s) last, ends_most (byte ∷ s))
       | inr last ↦ omega (arith, count_open (byte ∷ s) last, ends-fewer (byte ∷ s) place (omega arith) last)
     ]

@@ -4,107 +4,84 @@
 
 ghost use Rattle.std.specs.Prelude.{◌≡◌};
 ghost use Rattle.table_lines.specs.Lines.{read_tenths, read_signed_tenths};
-ghost use Rattle.table_lines.specs.Lines.{next_tenths, next_signed, table_line, line_count};
+ghost use Rattle.table_lines.specs.Lines.{next_tenths, next_signed, table_line};
+ghost use Rattle.table_lines.specs.Lines.{line_ends, line_count};
 
-use book_lines::{WeatherLine, ended};
-use book_values::{Signed, Value, byte_is, is_digit, read_value, with_sign};
+use book_lines::{WeatherNumbers, ended};
+use book_values::{digit_at, minus_at, past, read_value, with_sign};
 
 // A value with a dot and one digit after it, in tenths.
-fn read_tenths(s: &[u8], at: usize) -> Value
+#[tactic(auto, using(book_values::proofs::Laws::value_below), unfolding(crate::specs::Lines::read_tenths, crate::specs::Lines::with_tenth, book_values::specs::Values::past, book_values::specs::Values::digit_at))]
+fn read_tenths(s: &[u8], at: usize) -> Option<(u64, usize)>
     ensures { result ≡ read_tenths s.now at }
 {
-    let Value::Number(n, next) = read_value(s, at) else {
-        return Value::Malformed;
-    };
-    if !byte_is(s, next, 46) {
-        return Value::Malformed;
-    }
-    let place = next + 1;
-    if s.len() <= place {
-        return Value::Malformed;
-    }
-    let digit = s[place];
-    if !is_digit(digit) {
-        return Value::Malformed;
-    }
-    Value::Number(10 * n + (digit - 48) as u64, next + 2)
+    let (n, dot) = read_value(s, at)?;
+    let place = past(s, dot, b'.')?;
+    let tenths = digit_at(s, place)?;
+    Some((10 * n + tenths, place + 1))
 }
 
 // The same where there may be a minus.
-fn read_signed_tenths(s: &[u8], at: usize) -> Signed
+#[tactic(auto, using(crate::proofs::Tenths::tenths_fit, book_values::proofs::Minus::signed_is), unfolding(crate::specs::Lines::read_signed_tenths, book_values::specs::Values::minus_at))]
+fn read_signed_tenths(s: &[u8], at: usize) -> Option<(i64, usize)>
     ensures { result ≡ read_signed_tenths s.now at }
 {
-    if byte_is(s, at, 45) {
-        let value = read_tenths(s, at + 1);
-        return with_sign(true, value);
-    }
-    let value = read_tenths(s, at);
-    with_sign(false, value)
+    let (minus, first) = minus_at(s, at);
+    with_sign(minus, read_tenths(s, first))
 }
 
 // A semicolon, and the number after it.
-fn next_tenths(s: &[u8], at: usize) -> Value
+#[tactic(auto, unfolding(crate::specs::Lines::next_tenths, book_values::specs::Values::past))]
+fn next_tenths(s: &[u8], at: usize) -> Option<(u64, usize)>
     ensures { result ≡ next_tenths s.now at }
 {
-    if byte_is(s, at, 59) {
-        read_tenths(s, at + 1)
-    } else {
-        Value::Malformed
-    }
+    read_tenths(s, past(s, at, b';')?)
 }
 
-fn next_signed(s: &[u8], at: usize) -> Signed
+// The same where there may be a minus.
+#[tactic(auto, unfolding(crate::specs::Lines::next_signed, book_values::specs::Values::past))]
+fn next_signed(s: &[u8], at: usize) -> Option<(i64, usize)>
     ensures { result ≡ next_signed s.now at }
 {
-    if byte_is(s, at, 59) {
-        read_signed_tenths(s, at + 1)
-    } else {
-        Signed::Malformed
-    }
+    read_signed_tenths(s, past(s, at, b';')?)
 }
 
 // The line of this number: its temperature, rain and evapotranspiration in tenths.
 #[tactic(auto, unfolding(crate::specs::Lines::table_line, crate::specs::Lines::numbered))]
-pub fn table_line(s: &[u8], at: usize, number: u64) -> WeatherLine
+pub fn table_line(s: &[u8], at: usize, number: u64) -> Option<(WeatherNumbers, usize)>
     ensures { result ≡ table_line s.now at number }
 {
-    let Value::Number(month, a) = read_value(s, at) else {
-        return WeatherLine::Malformed;
-    };
+    let (month, a) = read_value(s, at)?;
     if month != number {
-        return WeatherLine::Malformed;
+        return None;
     }
-    let Signed::Number(temperature, b) = next_signed(s, a) else {
-        return WeatherLine::Malformed;
+    let (temperature, b) = next_signed(s, a)?;
+    let (rain, c) = next_tenths(s, b)?;
+    let (evapotranspiration, next) = ended(s, next_tenths(s, c))?;
+    let numbers = WeatherNumbers {
+        temperature,
+        rain,
+        evaporation: evapotranspiration,
     };
-    let Value::Number(rain, c) = next_tenths(s, b) else {
-        return WeatherLine::Malformed;
-    };
-    let last = next_tenths(s, c);
-    let Value::Number(evapotranspiration, next) = ended(s, last) else {
-        return WeatherLine::Malformed;
-    };
-    WeatherLine::Row(temperature, rain, evapotranspiration, next)
+    Some((numbers, next))
+}
+
+// How many bytes 10 a text has.
+#[tactic(auto, unfolding(crate::specs::Lines::line_ends))]
+fn line_ends(s: &[u8]) -> usize
+    ensures { result ≡ line_ends s.now }
+{
+    s.iter().filter(|byte| **byte == b'\n').count()
 }
 
 // How many lines a table has: one for each byte 10, and one for bytes after the last of them.
+#[tactic(auto, using(crate::proofs::Counting::ends_most, crate::proofs::Counting::last_ended, crate::proofs::Counting::last_open, crate::proofs::Counting::no_last))]
 pub fn line_count(s: &[u8]) -> usize
     ensures { result ≡ line_count s.now }
 {
-    let mut ends: usize = 0;
-    let mut i: usize = 0;
-    while i < s.len() {
-        if s[i] == 10 {
-            ends += 1;
-        }
-        i += 1;
+    let ends = line_ends(s);
+    match s.last() {
+        Some(last) if *last != b'\n' => ends + 1,
+        _ => ends,
     }
-    if i == 0 {
-        return 0;
-    }
-    let last = i - 1;
-    if s[last] == 10 {
-        return ends;
-    }
-    ends + 1
 }

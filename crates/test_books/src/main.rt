@@ -3,55 +3,40 @@
 // one after another. A fault of the framing ends it.
 #![tactic(auto)]
 
-ghost use Rattle.std.specs.Prelude.{◌≤◌, ◌<◌, length};
+ghost use Rattle.std.specs.Prelude.{◌<◌, length, IfSome};
 
-use book_values::{Value, byte_is, read_value};
+use book_values::read_value;
 
 const STDIN_FILENO: i32 = 0;
 
 const STDOUT_FILENO: i32 = 1;
 
-// Runs a book and writes its output. Answers whether it was written.
+// Runs a book and writes its output. Answers whether it was written. The output is an array and a
+// length, as are the books: a Vec would add the kit's memory to what this program assumes.
 fn run_one(book: &[u8]) -> bool {
     let mut out = [0u8; 204_800];
     let written = book_report::report(book, &mut out);
-    let length = written.length;
-    io::write_all(STDOUT_FILENO, &out[..length])
+    io::write_all(STDOUT_FILENO, &out[..written.length])
 }
 
-// Runs the framed book at a place. Gives the place of the next one, or the end of the books where
-// there is none.
-fn run_framed(books: &[u8], at: usize) -> usize
-    requires { at < length books.now }
-    ensures { (at < result) × (result ≤ length books.now) }
+// The first of framed books, and those after it. None where there is no more, or the framing is at
+// fault.
+fn first_book(books: &[u8]) -> Option<(&[u8], &[u8])>
+    ensures { IfSome result (λ r. length r.1.now < length books.now) }
 {
-    let end = books.len();
-    let Value::Number(size, next) = read_value(books, at) else {
-        return end;
-    };
-    if end <= next {
-        return end;
-    }
-    if !byte_is(books, next, 10) {
-        return end;
-    }
-    let first = next + 1;
-    if end - first < size as usize {
-        return end;
-    }
-    let last = first + size as usize;
-    if run_one(&books[first..last]) {
-        last
-    } else {
-        end
-    }
+    let (size, next) = read_value(books, 0)?;
+    let framed = books.get(next..)?.strip_prefix(b"\n")?;
+    framed.split_at_checked(size as usize)
 }
 
 // Runs all framed books.
 fn run_all(books: &[u8]) {
-    let mut at = 0;
-    while at < books.len() {
-        at = run_framed(books, at);
+    let mut books = books;
+    while let Some((book, rest)) = first_book(books) {
+        if !run_one(book) {
+            return;
+        }
+        books = rest;
     }
 }
 

@@ -6,32 +6,37 @@
 
 mod call;
 
+use call::call;
 use test_lines::fault;
 
 const STDIN_FILENO: i32 = 0;
 
-// The calls of a text in turn. One that departs from the form ends the run.
+// The calls of a text in turn. One that departs from the form ends the run, as one would that took
+// nothing of the text.
 fn calls(text: &[u8]) {
-    let mut at = 0;
-    while at < text.len() {
-        let next = call::call(text, at);
-        if next <= at {
-            fault();
-            return;
+    let mut left = text;
+    while !left.is_empty() {
+        match call(left) {
+            Some(rest) if rest.len() < left.len() => left = rest,
+            _ => {
+                fault();
+                return;
+            }
         }
-        at = next;
     }
 }
 
 // The calls of standard input. An input that fills the memory may be longer than it, and is a
-// fault.
+// fault. The input is an array and a length, since a Vec would add the kit's memory to what this
+// program assumes. Tried as a part of `main`: the checker runs out of stack at an array of this
+// size.
 fn read_calls(input: &mut [u8]) {
-    let n = io::read_full(STDIN_FILENO, input);
-    if n == input.len() {
+    let length = io::read_full(STDIN_FILENO, input);
+    if length == input.len() {
         fault();
-        return;
+    } else {
+        calls(&input[..length]);
     }
-    calls(&input[..n]);
 }
 
 fn main() {

@@ -3,12 +3,10 @@
 // are the bodies of the functions for C, which have one line each.
 #![tactic(auto)]
 
-ghost use Rattle.std.specs.Prelude.{◌≡◌, ◌≤◌, length, take};
-
 use list_rows::{ENTRIES_WIDTH, LAND_WIDTH, ROW_WIDTH, WEATHER_WIDTH};
 use month_layouts::{FIELD_WIDTH, SOIL_WIDTH};
-use test_lines::line;
-use test_numbers::{distance, line_end, read_list, read_numbers};
+use test_lines::Line;
+use test_numbers::Reader;
 
 // An act is its kind, a number and a month's entries. A history has so many acts at most, and a
 // list in it so many months.
@@ -18,130 +16,91 @@ const MOST_ACTS: usize = 80;
 
 const MOST_MONTHS: usize = 60;
 
-// A row again and again, as often as there is memory. A row of no numbers leaves it.
-fn repeat(rows: &mut [i64], row: &[i64]) {
-    if row.len() == 0 {
-        return;
-    }
-    let mut i = 0;
-    while i < rows.len() {
-        rows[i] = row[i % row.len()];
-        i += 1;
+type Weather = [i64; WEATHER_WIDTH];
+
+type Land = [i64; LAND_WIDTH];
+
+// What an act does.
+enum Kind {
+    TakeBack,
+    Month,
+    List,
+    SpinUp,
+}
+
+impl From<i64> for Kind {
+    fn from(number: i64) -> Kind {
+        match number {
+            0 => Kind::TakeBack,
+            1 => Kind::Month,
+            2 => Kind::List,
+            // any other number is a spin-up too
+            _ => Kind::SpinUp,
+        }
     }
 }
 
-// Kind 1: a single month call.
+// A single month call.
 fn month(field: &mut [u64], number: u64, entries: &[i64]) -> u64 {
     let mut row = [7u64; ROW_WIDTH];
     library_month::month(field, number, entries, &mut row)
 }
 
-// A list of as many months alike as there is memory for.
-fn list(
-    field: &mut [u64],
-    weather: &[i64],
-    land: &[i64],
-    lands: &mut [i64],
-    rows: &mut [u64],
-) -> u64 {
+// A list of so many months alike. A number above the most departs from the form, and is taken as
+// the most.
+fn list(field: &mut [u64], number: u64, weather: &Weather, land: &Land) -> u64 {
+    let months = MOST_MONTHS.min(number as usize);
+    let lands = [*land; MOST_MONTHS];
+    let mut rows = [[7u64; ROW_WIDTH]; MOST_MONTHS];
     let mut place = 7u64;
-    repeat(lands, land);
-    library_list::list(field, weather, lands, rows, &mut place)
-}
-
-// How many months a list has. A number above the most departs from the form, and is taken as the
-// most.
-fn months_of(number: u64) -> usize
-    ensures { result ≤ 60 }
-{
-    let months = number as usize;
-    if MOST_MONTHS < months {
-        return MOST_MONTHS;
-    }
-    months
-}
-
-// Kind 2: a list of so many months alike.
-fn sized_list(field: &mut [u64], number: u64, weather: &[i64], land: &[i64]) -> u64 {
-    let months = months_of(number);
-    let mut lands = [0i64; LAND_WIDTH * MOST_MONTHS];
-    let mut rows = [7u64; ROW_WIDTH * MOST_MONTHS];
-    let numbers = LAND_WIDTH * months;
-    let room = ROW_WIDTH * months;
-    list(
+    library_list::list(
         field,
         weather,
-        land,
-        &mut lands[..numbers],
-        &mut rows[..room],
+        lands[..months].as_flattened(),
+        rows[..months].as_flattened_mut(),
+        &mut place,
     )
 }
 
-// Kind 3: a spin-up of so many years of twelve months alike.
-fn spin_up(field: &mut [u64], years: u64, weather: &[i64], land: &[i64]) -> u64 {
-    let mut weathers = [0i64; WEATHER_WIDTH * 12];
-    let mut lands = [0i64; LAND_WIDTH * 12];
+// A spin-up of so many years of twelve months alike.
+fn spin_up(field: &mut [u64], years: u64, weather: &Weather, land: &Land) -> u64 {
+    let weathers = [*weather; 12];
+    let lands = [*land; 12];
     let mut result = [7u64; 2];
-    repeat(&mut weathers, weather);
-    repeat(&mut lands, land);
-    library_list::spin_up(field, &weathers, &lands, years, &mut result)
+    library_list::spin_up(
+        field,
+        weathers.as_flattened(),
+        lands.as_flattened(),
+        years,
+        &mut result,
+    )
 }
 
 // An act. Its number is never below 0, so that its distance from 0 is the number itself.
-fn act(field: &mut [u64], numbers: &[i64]) -> u64
-    requires { length numbers.now ≡ 10 }
-{
-    let kind = numbers[0];
-    let number = distance(numbers[1]);
-    let weather = 2;
-    let land = 2 + WEATHER_WIDTH;
-    if kind == 0 {
-        return library_back::take_back(field);
+fn act(field: &mut [u64], numbers: &[i64; ACT_WIDTH]) -> u64 {
+    let number = numbers[1].unsigned_abs();
+    let entries = &numbers[2..];
+    let weather = entries.first_chunk().unwrap();
+    let land = entries.last_chunk().unwrap();
+    match Kind::from(numbers[0]) {
+        Kind::TakeBack => library_back::take_back(field),
+        Kind::Month => month(field, number, entries),
+        Kind::List => list(field, number, weather, land),
+        Kind::SpinUp => spin_up(field, number, weather, land),
     }
-    if kind == 1 {
-        return month(field, number, &numbers[weather..]);
-    }
-    if kind == 2 {
-        return sized_list(field, number, &numbers[weather..land], &numbers[land..]);
-    }
-    spin_up(field, number, &numbers[weather..land], &numbers[land..])
 }
 
-// The acts in turn, and how many answers there are then.
-fn acts(field: &mut [u64], numbers: &[i64], answers: &mut [u64]) -> usize
-    requires { length answers.old ≡ 81 }
-    ensures within { result ≤ length answers.new }
-    ensures counts { result ≡ length (take result answers.new) }
-{
-    let mut i = 0;
-    while i < MOST_ACTS {
-        let from = ACT_WIDTH * i;
-        let end = from + ACT_WIDTH;
-        if numbers.len() < end {
-            return i + 1;
-        }
-        answers[i + 1] = act(field, &numbers[from..end]);
-        i += 1;
-    }
-    i + 1
-}
-
-// The line of a history, read from the place after its letter: the place of the next line, or 0
-// where it departs from the form.
-pub fn history(text: &[u8], at: usize) -> usize {
-    let mut soil = [0u64; SOIL_WIDTH];
-    let mut numbers = [0i64; ACT_WIDTH * MOST_ACTS];
-    let after = read_numbers(text, at, &mut soil);
-    let list = read_list(text, after, &mut numbers);
-    let next = line_end(text, list.next);
-    if next == 0 {
-        return 0;
-    }
+// The line of a history, read after its letter.
+pub fn history(reader: &mut Reader) -> Option<()> {
+    let soil: [u64; SOIL_WIDTH] = reader.array()?;
+    let mut memory = [0i64; ACT_WIDTH * MOST_ACTS];
+    let (acts, _) = reader.list(&mut memory)?.as_chunks();
+    reader.line_end()?;
     let mut field = [7u64; FIELD_WIDTH];
-    let mut answers = [0u64; MOST_ACTS + 1];
-    answers[0] = library_month::start(&soil, &mut field);
-    let size = list.value;
-    let n = acts(&mut field, &numbers[..size], &mut answers);
-    line(&answers[..n], &field, &[]);
-    next
+    let mut line = Line::new().with(&[library_month::start(&soil, &mut field)]);
+    for numbers in acts {
+        line = line.with(&[act(&mut field, numbers)]);
+    }
+    line.with(&field).end();
+    Some(())
 }

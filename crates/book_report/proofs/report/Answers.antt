@@ -1,7 +1,7 @@
 -- `book_report::report` meets its contract: the book's answer and rows are those of its definition, from 8,400 zeros, and so are what is
 -- written of them and whether it is a refusal. Assumes nothing.
 use mathlib.Core.Path.{sym}
-use Rattle.book_report.specs.Report.{book_refused, report_of}
+use Rattle.book_report.specs.Report.{report_of}
 use Rattle.book_report.proofs.Laws.{answer-most}
 use Rattle.book_report.proofs.report.Goals as goal
 
@@ -11,10 +11,6 @@ write_answer-length-requires c = answer-most _ _ c.run_book-answer.ensures.left
 pub returns-clause-length : goal.returns-clause-length
 unfolding report_of
 returns-clause-length c = rw (sym c.run_book-answer.ensures.left) c.write_answer-length.ensures.length
-
-pub returns-clause-refused : goal.returns-clause-refused
-unfolding book_refused
-returns-clause-refused c = rw (sym c.run_book-answer.ensures.left) c.is_refused-refused.ensures
 
 pub returns-clause-written : goal.returns-clause-written
 unfolding report_of

@@ -1,44 +1,36 @@
 -- `book_rows::as_weather` meets its contract: the line's values are those of its weather, which 13, 14 and 19 are asked of.
 -- Assumes nothing.
-use mathlib.Core.Path.{◌≡◌, sym, ◌∙◌, ap}
-use Prim.Native.Nat.{ℕ, ◌<◌, ◌^◌}
+use mathlib.Core.Path.{sym, ◌∙◌, ap}
 use borrow.Author.Rules.{rules}
-use lib.IntN.{ℤ}
 use mir.Syntax.{w64}
-use mir.Val.{SFits, to_z, of_z}
-use mir.Facts.{to_z_pos, to_z-of_z}
+use mir.Val.{SFits}
+use Rattle.std.specs.Prelude.{Ok}
+use Rattle.std.proofs.lemmas.Result.{err_from_is_err_and}
 use Rattle.month_state.specs.declared.Weather.{Weather}
 use Rattle.month_refusals.specs.Refusals.{weather_check}
-use Rattle.book_rows.specs.Rows.{weather_for}
+use Rattle.book_rows.proofs.Laws.{line_there, weather_bits}
 use Rattle.book_rows.proofs.as_weather.Goals as goal
 
--- The numbers go into the row as bits, which are read back.
-abbrev of_bits : ℤ → ℤ → ℕ → ℕ → Weather
-of_bits source temperature rain evaporation =
-    record {
-      temperature = to_z w64 (of_z w64 temperature);
-      rain = to_z w64 rain;
-      evaporation = to_z w64 evaporation;
-      source = to_z w64 (of_z w64 source);
-    }
+pub overflow_cast-row : goal.overflow_cast-row
+overflow_cast-row c = record { sfits = (c.requires.values _ _ (line_there _ _ c.ok_or.ensures.value c.in_ok-numbers.was)).0 }
 
-row_read :
-    (source temperature : ℤ) (rain evaporation : ℕ) → SFits w64 source → SFits w64 temperature
-    → (rain < 2 ^ 63) × (evaporation < 2 ^ 63)
-    → of_bits source temperature rain evaporation ≡ weather_for source temperature rain evaporation
-row_read source temperature rain evaporation known warm fits =
-    λ i. record {
-      temperature = to_z-of_z {w = w64} warm i;
-      rain = to_z_pos w64 fits.0 i;
-      evaporation = to_z_pos w64 fits.1 i;
-      source = to_z-of_z {w = w64} known i;
-    }
+pub overflow_cast-row-2 : goal.overflow_cast-row-2
+overflow_cast-row-2 c = record { sfits = (c.requires.values _ _ (line_there _ _ c.ok_or.ensures.value c.in_ok-numbers.was)).1 }
 
-pub returns-in-Refuse : goal.returns-in-Refuse
-returns-in-Refuse c =
-    let row = c.in-Row in
-    let warm : SFits w64 row.temperature = search rules in
-    let same =
-    row_read c.args.source row.temperature row.rain row.evaporation c.ranges.source warm
-    (c.requires.values _ _ _ _ row.is) in
-    rw (row.is, sym (c.check_weather.ensures.first ∙ ap weather_check same) ∙ c.in-Refuse.is)
+pub returns-in_err-check_weather : goal.returns-in_err-check_weather
+returns-in_err-check_weather c =
+    let n = c.in_ok-numbers.numbers in
+    let warm : SFits w64 n.temperature = search rules in
+    let there = line_there _ _ c.ok_or.ensures.value c.in_ok-numbers.was in
+    let same = weather_bits c.args.source n c.ranges.source warm (c.requires.values _ _ there) in
+    let p = err_from_is_err_and c.from_residual-in_err-check_weather.result c.from_residual-in_err-check_weather.ensures.1 in
+    rw (p.1, p.2, there, sym (c.check_weather.ensures.first ∙ ap weather_check same) ∙ c.in_err-check_weather.was)
+
+pub returns : goal.returns
+returns c =
+    let n = c.in_ok-numbers.numbers in
+    let warm : SFits w64 n.temperature = search rules in
+    let there = line_there _ _ c.ok_or.ensures.value c.in_ok-numbers.was in
+    let same = weather_bits c.args.source n c.ranges.source warm (c.requires.values _ _ there) in
+    rw (there, sym (c.check_weather.ensures.first ∙ ap weather_check same) ∙ c.in_ok-check_weather.was)
+    (ap (λ (w : Weather). Ok (w, c.in_ok-numbers.next)) same)

@@ -1,19 +1,29 @@
--- `book_run::land_head` meets its contract: the head is read and its count tested, and the rows follow.
+-- `book_run::land_head` meets its contract: the head is refused, or its rows follow.
 -- Assumes nothing.
-use mathlib.Core.Path.{refl, sym, ◌∙◌}
-use Rattle.book_run.specs.Book.{land_head}
+use mathlib.Core.Path.{sym, ◌∙◌}
+use Rattle.std.proofs.lemmas.Result.{err_from_is_err_and}
+use Rattle.book_lines.specs.Lines.{head_line}
+use Rattle.book_run.specs.Book.{land_name, land_section, land_head}
+use Rattle.book_run.proofs.Laws.{head_good, head_bad}
 use Rattle.book_run.proofs.land_head.Goals as goal
 
-pub returns-in_default : goal.returns-in_default
+pub returns-in_err-count : goal.returns-in_err-count
 unfolding land_head
-returns-in_default c = rw (sym c.head_line.ensures ∙ c.in_default.is) refl
-
-pub returns-then-bad_count : goal.returns-then-bad_count
-unfolding land_head
-returns-then-bad_count c = rw (sym c.head_line.ensures ∙ c.in-Number.is, sym c.bad_count.ensures ∙ c.if-bad_count.true) refl
+returns-in_err-count c =
+    let a = c.args in
+    let p = err_from_is_err_and c.from_residual.result c.from_residual.ensures.1 in
+    rw (p.1, p.2)
+    (sym
+    (head_bad (head_line a.s.now a.place land_name) a.line a.rows.now
+    (λ count next. land_section count a.s.now next a.line a.weather.now a.state.state a.rows.now)
+    (sym c.counted_head.ensures ∙ c.in_err-count.was)))
 
 pub returns : goal.returns
 unfolding land_head
 returns c =
-    rw (sym c.head_line.ensures ∙ c.in-Number.is, sym c.bad_count.ensures ∙ c.if-bad_count.false)
-    c.land_section.ensures
+    let a = c.args in
+    let good =
+    head_good (head_line a.s.now a.place land_name) a.line a.rows.now
+    (λ count next. land_section count a.s.now next a.line a.weather.now a.state.state a.rows.now)
+    (sym c.counted_head.ensures ∙ c.in_ok-count.was) in
+    c.land_section.ensures ∙ sym good.0

@@ -1,20 +1,20 @@
 -- `book_run::land_section` meets its contract: the front of the array that is lent to the months is the numbers that were read.
 -- Assumes nothing.
-use mathlib.Core.Path.{◌≡◌, sym, ◌∙◌, ap}
+use Rattle.std.specs.Prelude.{Ok, Err}
+use Rattle.std.proofs.lemmas.Result.{err_from_is_err_and}
+use mathlib.Core.Path.{◌≡◌, refl, sym, ◌∙◌, ap}
 use mathlib.Core.List.{List}
 use Prim.Native.Nat.{ℕ, ◌+◌, ◌*◌, ◌≤◌}
 use native.Mathlib.Omega.{arith}
 use lib.IntN.{ℤ}
 use lib.ListN.{length, take}
 use Rattle.month_state.specs.declared.State.{State}
-use Rattle.month_refusals.specs.Refusals.{state_check}
 use Rattle.list_rows.specs.Rows.{land_width, land_rows}
 use Rattle.list_run.specs.Run.{Left, months}
-use Rattle.list_run.proofs.Months.{course, place_in, months-sound}
+use Rattle.list_run.proofs.Months.{course, place_in}
 use Rattle.book_rows.specs.Rows.{RowsRead, begun_with, read_land}
 use Rattle.book_rows.proofs.Laws.{front, land_some}
-use Rattle.book_run.specs.declared.BookAnswer.{BookAnswer}
-use Rattle.book_run.specs.Book.{after_rows, after_months, land_months, land_section}
+use Rattle.book_run.specs.Book.{BookAnswer, after_rows, after_months, land_months, land_section}
 use Rattle.book_run.proofs.land_section.Goals as goal
 
 -- What the months leave, and the answer after them, are the section.
@@ -46,34 +46,47 @@ left_is read weather state out rows old new size begun is =
     is ∙ ap (λ (land : List ℤ). months rows weather land 0 state out) same
     ∙ ap (λ (n : ℕ). months n weather read.numbers 0 state out) rows_are
 
-pub after_rows-requires : goal.after_rows-requires
-after_rows-requires c =
-    ap (λ (l : Left). state_check l.outcome.state) c.run_months-outcome.ensures.left
-    ∙ months-sound _ _ _ _ _ _ c.requires.state
-
 pub overflow_add-result : goal.overflow_add-result
+unfolding read_land
 overflow_add-result c =
     let a = c.args in
     let place =
     place_in (course _ _ _ _ _ _)
-    (sym (ap (λ (l : Left). l.outcome.answer) c.run_months-outcome.ensures.left) ∙ c.in-Refused.is) in
-    omega (arith, place.1, few a.count a.s.now a.place (a.head + 1) _ c.read_land-read.ensures.rows, c.requires.count)
+    (sym (ap (λ (l : Left). l.outcome.answer) c.run_months-ran.ensures.left) ∙ c.in-Err.is) in
+    omega (arith, place.1, few a.count a.s.now a.place (a.head + 1) _ c.read_rows-read.ensures.rows, c.requires.count)
 
-pub returns-in-Finished : goal.returns-in-Finished
-returns-in-Finished c =
+pub returns-in-Err : goal.returns-in-Err
+unfolding read_land
+returns-in-Err c =
     let a = c.args in
-    let read = c.read_land-read.ensures in
+    let read = c.read_rows-read.ensures in
     let left =
-    left_is (read_land a.count a.s.now a.place (a.head + 1)) a.weather.now a.state a.rows.now _ _ _ read.rows read.numbers
-    c.run_months-outcome.ensures.left in
-    section_is a.count a.s.now a.place a.head a.weather.now a.state a.rows.now left
-    (rw (c.in-Finished.is, ← read.ends) c.after_rows.ensures)
+    left_is (read_land a.count a.s.now a.place (a.head + 1)) a.weather.now a.state.state a.rows.now _ _ _ read.rows read.numbers
+    c.run_months-ran.ensures.left in
+    section_is a.count a.s.now a.place a.head a.weather.now a.state.state a.rows.now left
+    (rw c.in-Err.is)
 
-pub returns-in-Refused : goal.returns-in-Refused
-returns-in-Refused c =
+pub returns-in_err-end : goal.returns-in_err-end
+unfolding read_land
+returns-in_err-end c =
     let a = c.args in
-    let read = c.read_land-read.ensures in
+    let read = c.read_rows-read.ensures in
     let left =
-    left_is (read_land a.count a.s.now a.place (a.head + 1)) a.weather.now a.state a.rows.now _ _ _ read.rows read.numbers
-    c.run_months-outcome.ensures.left in
-    section_is a.count a.s.now a.place a.head a.weather.now a.state a.rows.now left (rw c.in-Refused.is)
+    left_is (read_land a.count a.s.now a.place (a.head + 1)) a.weather.now a.state.state a.rows.now _ _ _ read.rows read.numbers
+    c.run_months-ran.ensures.left in
+    let p = err_from_is_err_and c.from_residual.result c.from_residual.ensures.1 in
+    let ended : (read_land a.count a.s.now a.place (a.head + 1)).ends ≡ Err c.in_err-end.field-0.0 = sym read.ends ∙ c.in_err-end.was in
+    section_is a.count a.s.now a.place a.head a.weather.now a.state.state a.rows.now left
+    (rw (p.1, p.2, c.in_default.is, ended) refl)
+
+pub returns : goal.returns
+unfolding read_land
+returns c =
+    let a = c.args in
+    let read = c.read_rows-read.ensures in
+    let left =
+    left_is (read_land a.count a.s.now a.place (a.head + 1)) a.weather.now a.state.state a.rows.now _ _ _ read.rows read.numbers
+    c.run_months-ran.ensures.left in
+    let ended : (read_land a.count a.s.now a.place (a.head + 1)).ends ≡ Ok c.in_ok-end.end = sym read.ends ∙ c.in_ok-end.was in
+    section_is a.count a.s.now a.place a.head a.weather.now a.state.state a.rows.now left
+    (rw (c.in_default.is, ended) c.ending.ensures)

@@ -1,18 +1,15 @@
--- `library_back::take_back` meets its contract: the length is tested, and then the answer of taking back decides.
+-- `library_back::take_back` meets its contract: a refusal leaves the field as it was.
 -- Assumes nothing.
-use Rattle.library_back.proofs.Laws.{back-state, back_taken, back-refused}
+use mathlib.Core.Path.{◌∙◌}
+use Rattle.std.proofs.Common.{arith}
+use Rattle.std.proofs.lemmas.Grind.{common_steps}
+use Rattle.library_month.proofs.Laws.{first_read, field_joined}
+use Rattle.library_back.specs.Calls.{rothc_take_back}
 use Rattle.library_back.proofs.take_back.Goals as goal
 
-pub returns-then-state-ne-FIELD_WIDTH : goal.returns-then-state-ne-FIELD_WIDTH
-returns-then-state-ne-FIELD_WIDTH c = back-state _ c.if-state-ne-FIELD_WIDTH.true
-
-pub returns-in-Taken : goal.returns-in-Taken
-returns-in-Taken c =
-    back_taken c.args.state.now c.if-state-ne-FIELD_WIDTH.false c.state_of.ensures c.take_back-outcome.ensures.outcome c.in-Taken.is
-    c.put_state.ensures
-
-pub returns-in-Refused : goal.returns-in-Refused
-returns-in-Refused c =
-    back-refused c.args.state.now c.if-state-ne-FIELD_WIDTH.false c.state_of.ensures c.take_back-outcome.ensures.outcome
-    c.in-Refused.is
-    c.refusal_number.ensures
+pub returns-in-Err : goal.returns-in-Err
+unfolding rothc_take_back
+returns-in-Err c =
+    let split = c.in-Some.ensures.cases in
+    let memory = c.in-Some-as_mut_array.ensures.cases in
+    rw (field_joined c.args.state.now split.0 (memory.same ∙ split.1)) (grind (arith, common_steps, first_read))

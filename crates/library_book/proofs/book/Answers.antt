@@ -9,20 +9,12 @@ write_answer-n-requires c = answer-most _ _ c.run_book-answer.ensures.left
 
 pub returns-then-out-n : goal.returns-then-out-n
 returns-then-out-n c =
-    let wrote = c.before.before in
-    let ran = wrote.run_book-answer in
-    let a = wrote.args in
-    book_short a.book.now a.out.now ran.ensures.left wrote.write_answer-n.ensures.length c.if-out-n.true c.refusal_number.ensures
+    book_short c.args.book.now c.args.out.now c.run_book-answer.ensures.left c.write_answer-n.ensures.length c.if-out-n.true c.number.ensures
 
 pub returns : goal.returns
 returns c =
-    let copied = c.before.before.before in
-    let tested = copied.before.before.before in
-    let wrote = tested.before in
-    let made = wrote.write_answer-n.ensures in
-    let ran = wrote.run_book-answer in
-    let a = wrote.args in
-    book_written a.book.now a.out.now ran.ensures.left made.length tested.if-out-n.false
-    copied.write_bytes.ensures.written
+    let made = c.write_answer-n.ensures in
+    book_written c.args.book.now c.args.out.now c.run_book-answer.ensures.left made.length c.if-out-n.false
+    c.write_bytes.ensures.written
     (part_is _ _ _ _ made.written made.length made.within)
-    c.book_told-told.ensures
+    c.placed_told.ensures

@@ -1,33 +1,17 @@
--- `library_month::month` meets its contract: the lengths are tested, and then the month call's answer decides.
+-- `library_month::month` meets its contract: a refused month leaves the field as it was.
 -- Assumes nothing.
-use native.Mathlib.Omega.{arith}
-use Rattle.library_month.proofs.Laws.{month-state, month_done, month-refused}
+use mathlib.Core.Path.{◌∙◌}
+use Rattle.std.proofs.Common.{arith}
+use Rattle.std.proofs.lemmas.Grind.{common_steps}
+use Rattle.library_month.specs.Calls.{rothc_month}
+use Rattle.library_month.proofs.Laws.{first_read, refused_same}
 use Rattle.library_month.proofs.month.Goals as goal
 
-pub returns-then-state-ne-FIELD_WIDTH : goal.returns-then-state-ne-FIELD_WIDTH
-returns-then-state-ne-FIELD_WIDTH c = month-state _ _ _ _ c.if-state-ne-FIELD_WIDTH.true
-
-pub returns-in-Done : goal.returns-in-Done
-returns-in-Done c =
-    let a = c.args in
-    month_done a.state.now a.number a.entries.now a.row.now c.if-state-ne-FIELD_WIDTH.false (omega arith)
-    c.if-row-ne-ROW_WIDTH.false
-    c.state_of-given.ensures
-    c.entries_of.ensures
-    c.call-outcome.ensures.outcome
-    c.call-outcome.ensures.kept
-    c.in-Done.is
-    c.put_state.ensures
-    c.put_row.ensures
-
-pub returns-in-Refused : goal.returns-in-Refused
-returns-in-Refused c =
-    let a = c.args in
-    month-refused a.state.now a.number a.entries.now a.row.now c.if-state-ne-FIELD_WIDTH.false (omega arith)
-    c.if-row-ne-ROW_WIDTH.false
-    c.state_of-given.ensures
-    c.entries_of.ensures
-    c.call-outcome.ensures.outcome
-    c.call-outcome.ensures.kept
-    c.in-Refused.is
-    c.refusal_number.ensures
+pub returns-in-Err : goal.returns-in-Err
+unfolding rothc_month
+returns-in-Err c =
+    let split = c.in-Some.ensures.cases in
+    let memory = c.in-Some-as_mut_array.ensures.cases in
+    rw
+    (refused_same c.args.state.now c.state_of-given.result split.0 (memory.same ∙ split.1) c.call-outcome.ensures.kept c.in-Err.is)
+    (grind (arith, common_steps, first_read))

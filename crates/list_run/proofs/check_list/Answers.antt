@@ -1,36 +1,31 @@
 -- `list_run::check_list` meets its contract: 3, 4 to 7, then 8 and 10.
 -- Assumes nothing.
-use mathlib.Core.Path.{sym, ◌∙◌}
-use lib.Dec.{lit<}
-use lib.ListN.{length}
-use Rattle.list_rows.specs.Rows.{weather_width, land_width}
-use Rattle.month_refusals.specs.Refusals.{soil_asked}
-use Rattle.month_refusals.proofs.First.{then_asked, then_refused}
-use Rattle.month_state.proofs.Tests.{left-true, right_true}
-use Rattle.list_rows.specs.Rows.{rows_outside}
-use Rattle.list_rows.proofs.Laws.{some_rows}
-use Rattle.list_run.proofs.Laws.{rows-refused, rows_pass}
+use Rattle.std.proofs.Common.{sym, ◌∙◌}
+use Rattle.std.proofs.lemmas.Result.{err_from_is_err_and}
+use Rattle.list_run.proofs.Laws.{weather_refused, land_refused, soil_refused, room_refused, bounds_found}
 use Rattle.list_run.proofs.check_list.Goals as goal
+use Rattle.list_run.proofs.check_list.Goals.{then-rows_outside-via-then-rows_outside, then-rows_outside-via-else-rows_outside+then-rows_outside-2}
 
 pub returns-then-rows_outside : goal.returns-then-rows_outside
-returns-then-rows_outside c =
-    rows-refused _ _ _ _ (left-true _ (sym c.rows_outside.ensures ∙ c.if-rows_outside.true))
+returns-then-rows_outside c = elim c.then-rows_outside.branch [
+  | then-rows_outside-via-then-rows_outside w ↦ weather_refused _ _ _ _ (sym c.rows_outside.ensures ∙ w.if-rows_outside.true)
+  | then-rows_outside-via-else-rows_outside+then-rows_outside-2 w ↦
+      land_refused _ _ _ _ (sym w.rows_outside-else-rows_outside.ensures ∙ w.if-rows_outside-2.true)
+]
 
-pub returns-then-rows_outside-2 : goal.returns-then-rows_outside-2
-returns-then-rows_outside-2 c =
-    rows-refused _ _ _ _ (right_true (rows_outside weather_width (length c.args.weather.now))
-    (sym c.rows_outside-2.ensures ∙ c.if-rows_outside-2.true))
+pub returns-in_err-check_soil : goal.returns-in_err-check_soil
+returns-in_err-check_soil c =
+    let p = err_from_is_err_and c.from_residual.result c.from_residual.ensures.1 in
+    rw (p.1, p.2)
+    (soil_refused _ _ _ _ (sym c.rows_outside.ensures ∙ c.if-rows_outside.false) (sym c.rows_outside-else-rows_outside.ensures ∙ c.if-rows_outside-2.false)
+    c.check_soil.ensures c.in_err-check_soil.was)
 
-pub check_room-requires-clause-rows : goal.check_room-requires-clause-rows
-check_room-requires-clause-rows c =
-    (some_rows land_width (length c.args.land.now) (lit< tt) (sym c.rows_outside-2.ensures ∙ c.if-rows_outside-2.false)).1
+pub returns-then-room-land : goal.returns-then-room-land
+returns-then-room-land c =
+    room_refused _ _ _ _ (sym c.rows_outside.ensures ∙ c.if-rows_outside.false) (sym c.rows_outside-else-rows_outside.ensures ∙ c.if-rows_outside-2.false)
+    c.check_soil.ensures c.in_ok-check_soil.was c.if-room-land.true
 
-pub returns-in-Pass : goal.returns-in-Pass
-returns-in-Pass c =
-    rows_pass _ _ _ _ (sym c.rows_outside.ensures ∙ c.if-rows_outside.false) (sym c.rows_outside-2.ensures ∙ c.if-rows_outside-2.false)
-    (then_asked (soil_asked _) (sym c.check_soil.ensures.first ∙ c.in-Pass.is) c.check_room.ensures)
-
-pub returns-in-Refuse : goal.returns-in-Refuse
-returns-in-Refuse c =
-    rows_pass _ _ _ _ (sym c.rows_outside.ensures ∙ c.if-rows_outside.false) (sym c.rows_outside-2.ensures ∙ c.if-rows_outside-2.false)
-    (then_refused (soil_asked _) _ (sym c.check_soil.ensures.first ∙ c.in-Refuse.is))
+pub returns : goal.returns
+returns c =
+    bounds_found _ _ _ _ (sym c.rows_outside.ensures ∙ c.if-rows_outside.false) (sym c.rows_outside-else-rows_outside.ensures ∙ c.if-rows_outside-2.false)
+    c.check_soil.ensures c.in_ok-check_soil.was c.if-room-land.false c.check_bounds.ensures

@@ -1,6 +1,6 @@
 -- `month_call::additions_of` meets its contract: each entry is in its range, and a natural number then.
 -- Assumes nothing.
-use Rattle.std.proofs.Common.{◌≡◌, ◌∙◌, ap, ℕ, ◌≤◌, ◌<◌, ◌^◌, ℤ, pos, nat_abs, arith, w64, to_z, of_z}
+use Rattle.std.proofs.Common.{◌≡◌, refl, ◌∙◌, ap, ℕ, ◌≤◌, ◌<◌, ◌^◌, ℤ, pos, nat_abs, arith, w64, to_z, of_z}
 use Rattle.month_refusals.proofs.Accepted.{Between, natural_most, land_ready}
 use Rattle.month_call.proofs.Steps.{natural_back}
 use Rattle.month_call.proofs.additions_of.Goals as goal
@@ -32,6 +32,7 @@ pub returns : goal.returns
 returns c =
     let ready = land_ready c.args.l c.requires in
     record {
+      kind = refl;
       plant = in_range_lem (omega arith) c.natural-plant.ensures ready.plant;
       manure = in_range_lem (omega arith) c.natural-manure.ensures ready.manure;
       activity = in_range_lem (omega arith) c.natural-activity.ensures ready.activity;

@@ -2,12 +2,15 @@
 -- Assumes nothing.
 use Rattle.std.proofs.Common.{◌≡◌, ◌∙◌, ap, ℕ, arith}
 use Rattle.step_decay.specs.Rates.{survivals}
+use Rattle.step_additions.specs.Kinds.{kind_number}
+use Rattle.step_additions.proofs.Laws.{number-has_kind, number-of_kind}
 use Rattle.step_pools.specs.Pools.{grams}
+use Rattle.month_state.specs.declared.State.{State}
+use Rattle.month_state.specs.declared.Entries.{Entries}
 use Rattle.month_refusals.proofs.Accepted.{sound-state, ready, entries-parts}
-use Rattle.month_call.specs.Month.{rate_after, pools_after, gas_of, modern_after, next_rate, steps_of}
+use Rattle.month_call.specs.Month.{rate_after, pools_after, gas_of, modern_after, next_deficit, next_rate, steps_of}
 use Rattle.month_call.proofs.Steps.{deficit-most, state_rate_most}
 use Rattle.month_call.proofs.run_steps.Goals as goal
-use Rattle.month_call.proofs.run_steps.Goals.{After-rate_after-n, After-turn_both-turned}
 
 pub max_deficit-largest-requires : goal.max_deficit-largest-requires
 max_deficit-largest-requires c =
@@ -27,11 +30,9 @@ rate_after-n-requires c =
     )
 
 -- the rate number is that of the definition
-rate-is : (c : After-rate_after-n) → c.rate_after-n.result ≡ next_rate c.args.s c.args.e
+rate-is : (s : State) (e : Entries) {n d : ℕ} → n ≡ rate_after s.soil d e → d ≡ next_deficit s e → n ≡ next_rate s e
 unfolding next_rate
-rate-is c =
-    c.rate_after-n.ensures
-    ∙ ap (λ (d : ℕ). rate_after c.args.s.soil d c.args.e) c.deficit_after-deficit.ensures
+rate-is s e n-is d-is = n-is ∙ ap (λ (d : ℕ). rate_after s.soil d e) d-is
 
 pub survivals-survival-requires : goal.survivals-survival-requires
 survivals-survival-requires c =
@@ -39,58 +40,46 @@ survivals-survival-requires c =
     let e = c.args.e in
     omega (
       arith,
-      rate-is c,
+      rate-is s e c.rate_after-n.ensures c.deficit_after-deficit.ensures,
       state_rate_most s e (sound-state s c.requires.state) (ready s e c.requires.entries),
     )
 
 pub clay_number-r-requires : goal.clay_number-r-requires
 clay_number-r-requires c = (sound-state c.args.s c.requires.state).soil.clay
 
-pub additions_of-given-requires : goal.additions_of-given-requires
-additions_of-given-requires c = (entries-parts c.args.s c.args.e c.requires.entries).land
+pub unwrap-kind-requires : goal.unwrap-kind-requires
+unwrap-kind-requires c =
+    let soil = (sound-state c.args.s c.requires.state).soil in
+    number-has_kind c.try_from.result c.try_from.ensures soil.first_kind soil.last_kind
 
-pub turn_both-turned-requires-clause-steps : goal.turn_both-turned-requires-clause-steps
-turn_both-turned-requires-clause-steps c =
-    let soil = (sound-state c.args.s c.requires.state).soil in (
-      c.survivals-survival.ensures.1,
-      omega (arith, c.clay_number-r.ensures.2),
-      soil.first_kind,
-      soil.last_kind,
-    )
+pub additions_of-activity-requires : goal.additions_of-activity-requires
+additions_of-activity-requires c = (entries-parts c.args.s c.args.e c.requires.entries).land
+
+pub invariant_of-shares : goal.invariant_of-shares
+invariant_of-shares c =
+    record { in_range = (c.survivals-survival.ensures.1, omega (arith, c.clay_number-r.ensures.2)) }
 
 pub turn_both-turned-requires-clause-grams : goal.turn_both-turned-requires-clause-grams
 turn_both-turned-requires-clause-grams c =
     let sound = sound-state c.args.s c.requires.state in
     (omega (arith, sound.soil.pools), omega (arith, sound.months, sound.modern))
 
--- Pools, CO2 and modern grams of both turns are the definition's.
-both-are :
-    (c : After-turn_both-turned)
-    → let s = c.args.s in
-    let e = c.args.e in
-    let turned = c.turn_both-turned.result in
-    (turned.pools ≡ pools_after s.soil (next_rate s e) e.land) × (turned.co2.0 ≡ gas_of s.soil (next_rate s e))
-    × (turned.modern ≡ modern_after s.soil s.modern (next_rate s e) e.land)
-unfolding pools_after gas_of modern_after
-both-are c =
-    let rate = rate-is c.before.before.before.before.before.before in
+pub returns : goal.returns
+unfolding steps_of pools_after gas_of modern_after
+returns c =
+    let rate = rate-is c.args.s c.args.e c.rate_after-n.ensures c.deficit_after-deficit.ensures in
     let is = c.survivals-survival.ensures.0 ∙ ap survivals rate in
     let clay = c.clay_number-r.ensures.0 in
-    let given = c.additions_of-given.ensures in
-    let t = c.turn_both-turned.ensures in (
-      t.pools ∙ rw (is, clay, given.plant.0, given.manure.0),
-      t.co2 ∙ rw (is, clay),
-      t.modern ∙ rw (is, clay, given.plant.0, given.manure.0, given.activity.0),
-    )
-
-pub returns : goal.returns
-unfolding steps_of
-returns c =
-    let is = both-are c.before.before.before in
+    let given = c.additions_of-activity.ensures in
+    let kind = ap kind_number given.kind ∙ number-of_kind c.try_from.ensures c.unwrap-kind.ensures in
+    let t = c.turn_both-turned.ensures in
+    let pools = t.pools ∙ rw (is, clay, kind, given.plant.0, given.manure.0) in
+    let co2 = t.co2 ∙ rw (is, clay) in
+    let modern = t.modern ∙ rw (is, clay, kind, given.plant.0, given.manure.0, given.activity.0) in
     let deficit = c.deficit_after-deficit.ensures in
     λ i. record {
-      pools = is.0 i;
-      co2 = grams (is.1 i);
+      pools = pools i;
+      co2 = grams (co2 i);
       deficit = record { 0 = deficit i };
-      modern = is.2 i;
+      modern = modern i;
     }

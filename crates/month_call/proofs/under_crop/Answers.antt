@@ -5,7 +5,7 @@ use Rattle.month_refusals.proofs.Accepted.{land_ready}
 use Rattle.month_call.proofs.Steps.{natural_back}
 use Rattle.month_call.proofs.under_crop.Goals as goal
 
-pub natural-cover-requires : goal.natural-cover-requires
-natural-cover-requires c =
+pub natural-requires : goal.natural-requires
+natural-requires c =
     let cover = (land_ready c.args.l c.requires).cover in
     rw (natural_back _ _ (omega arith) cover) cover.from

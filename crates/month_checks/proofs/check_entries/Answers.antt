@@ -1,24 +1,16 @@
--- `month_checks::check_entries` meets its contract: 12, the weather, then 15, 16, 21 and 17.
+-- `month_checks::check_entries` meets its contract: below the month limit, a refused weather is refused whatever the land.
 -- Assumes nothing.
-use mathlib.Core.Path.{sym}
+use mathlib.Core.Path.{◌≡◌}
 use native.Mathlib.Omega.{arith}
-use borrow.Author.Tests.{le-leb, lt-leb}
-use Rattle.month_refusals.specs.Refusals.{limit_reached, weather_asked, entries_asked}
-use Rattle.month_refusals.proofs.First.{then_asked, then_refused, asked-true, asked-false}
+use borrow.Author.Rules.{rules}
+use borrow.Author.Tests.{lt-leb}
+use Rattle.std.specs.Prelude.{Err}
+use Rattle.month_refusals.specs.Refusals.{limit_reached, entries_asked}
+use Rattle.month_refusals.proofs.First.{asked-false, part_refuses}
 use Rattle.month_checks.proofs.check_entries.Goals as goal
 
-pub returns-then-months-ge-MONTH_LIMIT : goal.returns-then-months-ge-MONTH_LIMIT
+pub returns-in_err-check_weather : goal.returns-in_err-check_weather
 unfolding entries_asked limit_reached
-returns-then-months-ge-MONTH_LIMIT c = asked-true (le-leb _ _ (omega arith))
-
-pub returns-in-Pass : goal.returns-in-Pass
-unfolding entries_asked limit_reached
-returns-in-Pass c =
-    asked-false (lt-leb _ _ (omega arith))
-    (then_asked (weather_asked _) (sym c.in-Pass.ensures.first) c.check_carbon.ensures)
-
-pub returns-in-Refuse : goal.returns-in-Refuse
-unfolding entries_asked limit_reached
-returns-in-Refuse c =
-    asked-false (lt-leb _ _ (omega arith))
-    (then_refused (weather_asked _) _ (sym c.in-Refuse.ensures.first))
+returns-in_err-check_weather c =
+    let is : c.from_residual.result ≡ Err c.in_err-check_weather.field-0.0 = search rules in
+    asked-false (lt-leb _ _ (omega arith)) (part_refuses _ _ c.check_weather.ensures c.in_err-check_weather.was is)

@@ -7,5 +7,5 @@ use Rattle.radiocarbon_report.proofs.carbon_of.Goals as goal
 
 pub five_pools-requires : goal.five_pools-requires
 five_pools-requires c =
-    let sound = sound-state c.args.s c.requires in
+    let sound = sound-state c.args.s.state c.args.s.passes in
     omega (arith, sound.soil.pools, sound.soil.iom)

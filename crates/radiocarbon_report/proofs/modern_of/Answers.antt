@@ -9,16 +9,16 @@ use Rattle.step_modern.proofs.Laws.{modern-most}
 use Rattle.radiocarbon_report.proofs.modern_of.Goals as goal
 
 pub modern_grams-inert-requires : goal.modern_grams-inert-requires
-modern_grams-inert-requires c = ((sound-state c.args.s c.requires).soil.iom, lit≤ tt)
+modern_grams-inert-requires c = ((sound-state c.args.s.state c.args.s.passes).soil.iom, lit≤ tt)
 
 pub total-requires : goal.total-requires
 total-requires c =
-    let sound = sound-state c.args.s c.requires in
+    let sound = sound-state c.args.s.state c.args.s.passes in
     omega (arith, sound.modern, sound.months)
 
 pub overflow_add-result : goal.overflow_add-result
 overflow_add-result c =
-    let sound = sound-state c.args.s c.requires in
+    let sound = sound-state c.args.s.state c.args.s.passes in
     omega (
       arith,
       sound.modern,
@@ -26,5 +26,5 @@ overflow_add-result c =
       sound.soil.iom,
       c.total.ensures,
       c.modern_grams-inert.ensures,
-      modern-most c.args.s.soil.iom.0 {activity = inert_activity} (lit≤ tt),
+      modern-most c.args.s.state.soil.iom.0 {activity = inert_activity} (lit≤ tt),
     )

@@ -1,9 +1,10 @@
--- The loop of `write_whole`: no more bytes were taken than there are; the measure is what is left of them.
-use Rattle.std.proofs.Common.{length, ◌-◌, ◌≤◌}
+-- The loop of `write_whole`: a write that takes some bytes leaves fewer, and one that was interrupted
+-- leaves fewer tries.
+use Rattle.std.proofs.Common.{length, ◌+◌, ◌*◌, ◌≤◌}
 use Rattle.rothc.proofs.write_whole.Given as goal
 
-abbrev pub invariant-loop-done : goal.invariant-loop-done
-invariant-loop-done g l = l.done ≤ length l.text
+abbrev pub invariant-loop-left : goal.invariant-loop-left
+invariant-loop-left g l = l.tries ≤ 1000000000
 
-abbrev pub decreases-loop-done : goal.decreases-loop-done
-decreases-loop-done g l = length l.text - l.done
+abbrev pub decreases-loop-left : goal.decreases-loop-left
+decreases-loop-left g l = 1000000001 * length l.left + l.tries

@@ -1,30 +1,32 @@
 -- `spin_up::check_spin_up` meets its contract: 3, 4 to 7, then 9 and 10.
 -- Assumes nothing.
-use mathlib.Core.Path.{sym, ◌∙◌, ap}
-use mathlib.Core.Bool.{not}
-use borrow.Author.Tests.{eq-eqb, ne_eqb}
-use Rattle.list_rows.specs.Rows.{weather_width}
-use Rattle.month_refusals.specs.Refusals.{soil_asked}
-use Rattle.month_refusals.proofs.First.{then_asked, then_refused}
-use Rattle.month_state.proofs.Tests.{left-true, right_true}
-use Rattle.spin_up.specs.SpinUp.{not_twelve}
-use Rattle.spin_up.proofs.Laws.{rows-refused, rows_pass}
+use Rattle.std.proofs.Common.{arith}
+use Rattle.std.proofs.lemmas.Result.{err_from_is_err_and}
+use Rattle.spin_up.proofs.Laws.{weather_refused, land_refused, soil_refused, years_refused, bounds_found}
 use Rattle.spin_up.proofs.check_spin_up.Goals as goal
+use Rattle.spin_up.proofs.check_spin_up.Goals.{then-weather-via-then-weather, then-weather-via-else-weather+then-land}
 
 pub returns-then-weather : goal.returns-then-weather
-returns-then-weather c = rows-refused _ _ _ _ (left-true _ (ap not (ne_eqb _ _ c.if-weather.true)))
+returns-then-weather c = elim c.then-weather.branch [
+  | then-weather-via-then-weather w ↦ weather_refused _ _ _ _ w.if-weather.true
+  | then-weather-via-else-weather+then-land w ↦ land_refused _ _ _ _ w.if-land.true
+]
 
-pub returns-then-land : goal.returns-then-land
-returns-then-land c =
-    rows-refused _ _ _ _
-    (right_true (not_twelve weather_width c.args.weather.now) (ap not (ne_eqb _ _ c.if-land.true)))
+pub returns-in_err-check_soil : goal.returns-in_err-check_soil
+returns-in_err-check_soil c =
+    let p = err_from_is_err_and c.from_residual.result c.from_residual.ensures.1 in
+    rw (p.1, p.2)
+    (soil_refused _ _ _ _ c.if-weather.false c.if-land.false c.check_soil.ensures c.in_err-check_soil.was)
 
-pub returns-in-Pass : goal.returns-in-Pass
-returns-in-Pass c =
-    rows_pass _ _ _ _ (ap not (eq-eqb _ _ c.if-weather.false)) (ap not (eq-eqb _ _ c.if-land.false))
-    (then_asked (soil_asked _) (sym c.check_soil.ensures.first ∙ c.in-Pass.is) c.check_allowed.ensures)
+pub returns-in-1-to-10000 : goal.returns-in-1-to-10000
+returns-in-1-to-10000 c =
+    bounds_found _ _ _ _ c.if-weather.false c.if-land.false c.check_soil.ensures c.in_ok-check_soil.was (omega arith) (omega arith)
+    c.check_bounds.ensures
 
-pub returns-in-Refuse : goal.returns-in-Refuse
-returns-in-Refuse c =
-    rows_pass _ _ _ _ (ap not (eq-eqb _ _ c.if-weather.false)) (ap not (eq-eqb _ _ c.if-land.false))
-    (then_refused (soil_asked _) _ (sym c.check_soil.ensures.first ∙ c.in-Refuse.is))
+pub returns-in_default : goal.returns-in_default
+returns-in_default c =
+    years_refused _ _ _ _ c.if-weather.false c.if-land.false c.check_soil.ensures c.in_ok-check_soil.was (λ some. omega arith)
+
+pub returns-in_default-2 : goal.returns-in_default-2
+returns-in_default-2 c =
+    years_refused _ _ _ _ c.if-weather.false c.if-land.false c.check_soil.ensures c.in_ok-check_soil.was (λ some. omega arith)

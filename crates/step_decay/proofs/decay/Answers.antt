@@ -3,20 +3,19 @@
 use mathlib.Core.Path.{ap, ◌∙◌}
 use mathlib.Core.List.{List}
 use Rattle.number_units.specs.declared.Grams.{Grams}
-use Rattle.step_pools.specs.Pools.{total}
-use Rattle.step_decay.specs.Decay.{carbon_dioxide, split}
+use Rattle.step_decay.specs.Decay.{split}
 use Rattle.step_decay.proofs.Laws.{losses-within, split-losses}
 use Rattle.step_decay.proofs.decay.Goals as goal
 
 pub split-requires : goal.split-requires
 split-requires c =
     let a = c.args in
-    (rw c.losses-lost.ensures (losses-within a.pools a.survival), c.requires.1, c.requires.2)
+    (rw c.losses.ensures (losses-within a.pools a.shares.survival), a.shares.in_range.1, c.requires)
 
-pub returns : goal.returns
-returns c =
+pub returns-clause-pools : goal.returns-clause-pools
+returns-clause-pools c =
     let a = c.args in
-    let are = c.losses-lost.ensures in record {
-      pools = c.split.ensures.pools ∙ ap (λ (l : List Grams). split a.pools l a.r) are ∙ split-losses a.pools a.survival a.r c.requires.0;
-      co2 = c.split.ensures.co2 ∙ ap (λ (l : List Grams). carbon_dioxide (total l) a.r) are;
-    }
+    let shares = a.shares in
+    c.split.ensures.pools
+    ∙ ap (λ (l : List Grams). split a.pools l shares.r) c.losses.ensures
+    ∙ split-losses a.pools shares.survival shares.r shares.in_range.0

@@ -1,5 +1,5 @@
--- `step_pools::share` meets its contract: ten billion times a part of at most a billion fits, and so do the two products of a larger x,
--- since part ≤ whole and the remainder is below the whole; by `share-parts` their sum is the share, which is at most x.
+-- `step_pools::share` meets its contract: ten billion times a part of at most a billion fits, and so do the two products of more grams,
+-- since part ≤ whole and the remainder is below the whole; by `share-parts` their sum is the share, which is at most all.
 -- Assumes nothing.
 use mathlib.Core.Path.{refl}
 use native.Mathlib.Omega.{arith}
@@ -7,12 +7,12 @@ use Rattle.step_pools.specs.Pools.{share}
 use Rattle.step_pools.proofs.Laws.{share-parts, share-le}
 use Rattle.step_pools.proofs.share.Goals as goal
 
-pub returns-then-x-le10000000000 : goal.returns-then-x-le10000000000
+pub returns-then-x-le-SHARED_AT_ONCE : goal.returns-then-x-le-SHARED_AT_ONCE
 unfolding share
-returns-then-x-le10000000000 c = (refl, share-le c.args.x c.requires.2)
+returns-then-x-le-SHARED_AT_ONCE c = (refl, share-le c.args.grams.0 c.requires.2)
 
-pub returns : goal.returns
-returns c =
-    let s = c.before in
-    let is = share-parts s.args.x s.args.part s.requires.0 in
-    (is, omega (arith, is, share-le s.args.x s.requires.2))
+pub returns-else-x-le-SHARED_AT_ONCE : goal.returns-else-x-le-SHARED_AT_ONCE
+returns-else-x-le-SHARED_AT_ONCE c =
+    let a = c.args in
+    let is = share-parts a.grams.0 a.part c.requires.0 in
+    (is, omega (arith, is, share-le a.grams.0 c.requires.2))

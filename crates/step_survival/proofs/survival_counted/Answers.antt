@@ -13,8 +13,8 @@ returns c =
     let n = c.args.n in
     let k = c.args.k in
     let p = c.parts-p.ensures.0 in
-    let is = c.survival_at-s.ensures ∙ ap survival_at p in
-    let terms = c.term_count-terms.ensures ∙ ap (λ (q : ℕ). term_count (q % 4294967296)) p in
+    let is = c.survival_at.ensures ∙ ap survival_at p in
+    let terms = c.term_count.ensures ∙ ap (λ (q : ℕ). term_count (q % 4294967296)) p in
     let most : survival_terms n k ≤ 40 = (every_w.months n k c.requires.0 c.requires.1).at_most40 in
     record {
       survival = (is, rw is (is_survival n k c.requires.0 c.requires.1));

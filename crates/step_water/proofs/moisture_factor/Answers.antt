@@ -8,9 +8,9 @@ use Rattle.step_water.specs.Water.{moisture_factor}
 use Rattle.step_water.proofs.Laws.{halves_up_top}
 use Rattle.step_water.proofs.moisture_factor.Goals as goal
 
-pub returns-then-deficit-largest : goal.returns-then-deficit-largest
+pub returns-then-d-m : goal.returns-then-d-m
 unfolding moisture_factor
-returns-then-deficit-largest c =
+returns-then-d-m c =
     let below : 1000 * c.args.d.0 < 444 * c.args.m.0 = omega arith in
     simp (lt-ltb _ _ below)
 

@@ -1,37 +1,36 @@
--- `table_import::table` meets its contract: a table that 3 and 8 let pass leaves what its lines leave, and any other its refusal.
+-- `table_import::table` meets its contract: 3 or 8 or a line that is refused leaves the output, and lines that are all read put
+-- their numbers over its front.
 -- Assumes nothing.
-use mathlib.Core.Path.{◌≡◌, sym, ◌∙◌, ap}
-use mathlib.Core.List.{List}
-use Prim.Native.Nat.{ℕ}
-use lib.IntN.{ℤ}
-use lib.ListN.{length}
-use Rattle.month_refusals.specs.Asked.{told, Exactly}
-use Rattle.table_import.specs.declared.TableAnswer.{TableAnswer}
-use Rattle.table_import.specs.Table.{table_asked, TableLeft, table_of, table_found, table_told}
-use Rattle.table_import.proofs.Laws.{table_told_lem, table_exactly}
+use Rattle.std.proofs.Common.{sym, ◌∙◌}
+use Rattle.std.proofs.lemmas.Result.{err_from_is_err_and}
+use Rattle.table_import.specs.Table.{read_table}
+use Rattle.table_import.proofs.Laws.{lines_refused, lines_put, room_enough, table_passes, table_refuses, left_told, left_exactly}
 use Rattle.table_import.proofs.table.Goals as goal
 
--- What leaves the definition's record has its number and place too, and its refusals.
-with_told :
-    (s : List ℕ) (out : List ℤ) {r : TableAnswer} {output : List ℤ} → record { answer = r; output = output } ≡ table_of s out
-    → (record { answer = r; output = output } ≡ table_of s out)
-    × ((table_told r ≡ told (table_asked s (length out))) × Exactly (table_asked s (length out)) (table_found r))
-with_told s out is =
-    let answered = ap (λ (l : TableLeft). l.answer) (sym is) in
-    (is, (rw answered at (table_told_lem s out), rw answered at (table_exactly s out)))
+pub returns-in-Err : goal.returns-in-Err
+returns-in-Err c =
+    let a = c.args in
+    let is = table_refuses a.s.now a.out.now _ c.line_count-lines.ensures c.check_lines.ensures c.in-Err.is in
+    record { left = is; told = left_told _ _ is; exactly = left_exactly _ _ is }
 
-pub returns-in-Pass : goal.returns-in-Pass
-unfolding table_of
-returns-in-Pass c =
-    let passes = rw c.line_count-lines.ensures at (sym c.check_lines.ensures.first) ∙ c.in-Pass.is in
-    let all =
-    with_told c.args.s.now c.args.out.now (rw c.line_count-lines.ensures at c.import.ensures ∙ rw passes) in
-    record { left = all.0; told = all.1.0; exactly = all.1.1 }
+pub returns-in_err-read_rows : goal.returns-in_err-read_rows
+unfolding read_table
+returns-in_err-read_rows c =
+    let a = c.args in
+    let lines = c.line_count-lines.result in
+    let p = err_from_is_err_and c.from_residual.result c.from_residual.ensures.1 in
+    let is =
+    lines_refused lines (read_table lines a.s.now).numbers a.out.now (sym c.read_rows.ensures.ends ∙ c.in_err-read_rows.was)
+    ∙ table_passes a.s.now a.out.now lines c.line_count-lines.ensures c.check_lines.ensures c.in_default.is in
+    rw (p.1, p.2) (record { left = is; told = left_told _ _ is; exactly = left_exactly _ _ is })
 
-pub returns-in-Refuse : goal.returns-in-Refuse
-unfolding table_of
-returns-in-Refuse c =
-    let all =
-    with_told c.args.s.now c.args.out.now
-    (rw (rw c.line_count-lines.ensures at (sym c.check_lines.ensures.first) ∙ c.in-Refuse.is)) in
-    record { left = all.0; told = all.1.0; exactly = all.1.1 }
+pub returns : goal.returns
+unfolding read_table
+returns c =
+    let a = c.args in
+    let lines = c.line_count-lines.result in
+    let is =
+    lines_put a.s.now lines c.read_rows.ensures.ends c.in_ok-read_rows.was _ a.out.now c.read_rows.ensures.numbers
+    c.copy_from_slice.ensures.after (room_enough _ _ c.check_lines.ensures c.in_default.is)
+    ∙ table_passes a.s.now a.out.now lines c.line_count-lines.ensures c.check_lines.ensures c.in_default.is in
+    record { left = is; told = left_told _ _ is; exactly = left_exactly _ _ is }
