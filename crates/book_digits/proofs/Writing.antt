@@ -1,13 +1,12 @@
 -- Values put into a list: the length stays, runs that follow one another are one run, and what stands where.
 -- Assumes nothing.
-use mathlib.Core.Path.{◌≡◌, refl, sym, ◌∙◌, ap, ap₂}
+use mathlib.Core.Path.{◌≡◌, refl, sym, ◌∙◌, ap}
 use mathlib.Core.List.{List, [], ◌∷◌, ◌++◌, append_assoc}
 use Prim.Native.Nat.{ℕ, zero, suc, ◌+◌, ◌≤◌, ◌<◌}
-use native.Mathlib.Numerals.{add-one}
 use native.Mathlib.Nat.{add-zero}
 use native.Mathlib.Omega.{arith}
-use lib.ListN.{length, get_or, take, drop, set, length-set, drop_of_length-le}
-use lib.Seq.{length-sets, sets-eq, drop-cons, get_or-set_same, get_or-set_other}
+use lib.ListN.{length, get_or, take, drop, set, length-set}
+use lib.Seq.{length-sets, sets-eq, get_or-set_same, get_or-set_other}
 use borrow.Rule.Slice.PartMut.{put_mid}
 use Rattle.std.proofs.lemmas.List.Edits.{paste_all}
 use Rattle.std.proofs.lemmas.Slice.{put_mid-paste}
@@ -69,32 +68,3 @@ module _ {A : Type 0} where
   overwritten_there list at (x ∷ xs) (suc c) d room h =
       ap (λ (k : ℕ). get_or (overwritten (set list at x) (suc at) xs) k d) (omega arith)
       ∙ overwritten_there (set list at x) (suc at) xs c d (omega (arith, length-set list at x)) (omega arith)
-
--- A copy of values on the way: what is left to put makes the whole.
-pub record Copying {A : Type 0} (whole : List A) (at : ℕ) (values out : List A) (i : ℕ) : Type 0 where
-  pub within : i ≤ length values
-  pub same : length out ≡ length whole
-  pub rest : overwritten out (at + i) (drop i values) ≡ overwritten whole at values
-
-module _ {A : Type 0} where
-  pub begun : (out : List A) (at : ℕ) (values : List A) → Copying out at values out 0
-  begun out at values =
-      record { within = omega arith; same = refl; rest = ap (λ (k : ℕ). overwritten out k values) (add-zero at) }
-
-  pub copied : (whole : List A) (at : ℕ) (values out : List A) (i : ℕ) (d : A) → Copying whole at values out i → i < length values →
-      Copying whole at values (set out (at + i) (get_or values i d)) (i + 1)
-  unfolding overwritten
-  copied whole at values out i d c h =
-      record {
-        within = omega arith;
-        same = length-set out (at + i) (get_or values i d) ∙ c.same;
-        rest =
-            ap₂ (λ (k j : ℕ). overwritten (set out (at + i) (get_or values i d)) k (drop j values)) (omega arith) (add-one i)
-            ∙ sym (ap (overwritten out (at + i)) (drop-cons values i d h))
-            ∙ c.rest;
-      }
-
-  pub finished : (whole : List A) (at : ℕ) (values out : List A) (i : ℕ) → Copying whole at values out i →
-      length values ≤ i → out ≡ overwritten whole at values
-  unfolding overwritten
-  finished whole at values out i c h = sym (ap (overwritten out (at + i)) (drop_of_length-le values h)) ∙ c.rest

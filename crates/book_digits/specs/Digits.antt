@@ -1,6 +1,7 @@
 -- The numbers of document 01's book as they are written, and how bytes are put into a text. A byte
 -- is a number, a text a list of bytes.
-use Rattle.std.specs.Prelude.{cond, List, [], ◌∷◌, ◌++◌, ℕ, zero, suc, ◌+◌, ◌/◌, ◌%◌, ltb, ℤ, pos, negsuc}
+use Rattle.std.specs.Prelude.{cond, List, [], ◌∷◌, ◌++◌, ℕ, zero, suc, ◌+◌, ◌/◌, ◌%◌, ltb, ℤ, pos}
+use Rattle.std.specs.Prelude.{negsuc}
 use Rattle.std.proofs.lemmas.List.Edits.{sets}
 
 -- The decimal digits of n, the highest first; of more than `most`, the last ones.

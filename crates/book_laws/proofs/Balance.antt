@@ -75,7 +75,10 @@ kept {weather} {land} {j} {s} (courses.month row e later) sound h before (x ∷ 
     let rest =
     kept later (month-sound s entries sound) h (before ++ land_numbers x) xs (omega arith)
     (simp length-append (omega (arith, land_of_length x))) (here ∙ sym (append_assoc before (land_numbers x) (flat_map land_numbers xs))) in
-    record { iom = rest.iom ∙ first.soil.iom; balance = omega (arith, rest.balance, first.balance, ap (λ (l : Land). nat_abs l.plant + nat_abs l.manure) own) }
+    record {
+      iom = rest.iom ∙ first.soil.iom;
+      balance = omega (arith, rest.balance, first.balance, ap (λ (l : Land). nat_abs l.plant + nat_abs l.manure) own);
+    }
 
 -- ---- the book
 

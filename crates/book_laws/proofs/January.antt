@@ -21,7 +21,8 @@ use Rattle.book_laws.specs.BookText.{book_text, WellFormed, Written}
 use Rattle.book_laws.specs.January.{january, january_text}
 
 pub january-good : WellFormed january
-unfolding january first_of soil_asked clay_outside depth_outside kind_other carbon_above total weather_asked temperature_outside water_outside source_outside
+unfolding january first_of soil_asked clay_outside depth_outside kind_other carbon_above total
+    weather_asked temperature_outside water_outside source_outside
 january-good =
     record {
       soil = refl;

@@ -10,7 +10,7 @@ use mathlib.Core.List.{List, [], ◌++◌, flat_map, append-nil}
 use Prim.Native.Nat.{ℕ, zero, suc, ◌+◌, ◌*◌, ◌%◌, ◌≤◌, ◌<◌}
 use native.Mathlib.Nat.{mod-lt}
 use native.Mathlib.Omega.{arith}
-use borrow.Author.Tests.{ltb-false, lt-leb, eqb-true, not-false}
+use borrow.Author.Tests.{lt-leb, eqb-true, not-false}
 use lib.Dec.{ltb, eqb}
 use lib.IntN.{ℤ}
 use lib.ListN.{length, drop}
@@ -23,15 +23,14 @@ use Rattle.month_state.specs.declared.Weather.{Weather}
 use Rattle.month_state.specs.declared.Land.{Land}
 use Rattle.month_state.specs.State.{month_limit, new_state}
 use Rattle.list_rows.specs.Rows.{weather_width, land_width, weather_from, land_from, weather_numbers, land_numbers}
+use Rattle.list_rows.specs.Rows.{weather_rows, land_rows, entries_at}
 use Rattle.list_rows.proofs.Layouts.{weather_of_length, weather-back, weather_past, land_of_length, land-back, land_past}
 use Rattle.month_refusals.specs.declared.Refusal.{Refusal}
 use Rattle.month_refusals.specs.declared.Refusal.TheVariants.{Length, Rows, Form}
 use Rattle.month_refusals.specs.Refusals.{limit_reached, activity_outside, soil_asked, weather_asked, land_asked, carbon_asked, entries_asked}
 use Rattle.month_refusals.specs.Refusals.{soil_check, weather_check, entries_check}
 use Rattle.month_refusals.proofs.First.{finds_own, first-append}
-use Rattle.std.proofs.lemmas.Bool.{or_parts}
 use Rattle.month_call.specs.Month.{outcome_of, list_month}
-use Rattle.list_rows.specs.Rows.{weather_rows, land_rows, entries_at}
 use Rattle.list_run.specs.Run.{ListAnswer, Left, months}
 use Rattle.list_run.proofs.Months as courses
 use Rattle.list_run.proofs.Months.{Course, course}
@@ -41,9 +40,10 @@ use Rattle.book_lines.specs.declared.SoilNumbers.{SoilNumbers}
 use Rattle.book_lines.specs.Lines.{head_line, soil_line, land_line}
 use Rattle.book_lines.proofs.Laws.{head_read, soil_read}
 use Rattle.book_rows.specs.Rows.{land_of, as_land, land_row, land_gives, RowsRead, row_then, read_rows, read_weather, read_land}
-use Rattle.book_run.specs.Book.{BookAnswer, soil_then, soil_section, book_of}
-use Rattle.book_run.specs.Book.{BookLeft, refused_on, soil_name, weather_name, land_name, not_one, bad_count, headed, ending, after_rows}
-use Rattle.book_run.specs.Book.{after_months, land_months, land_section, land_head, weather_then, weather_section, weather_head, soil_of, soil_checked}
+use Rattle.book_run.specs.Book.{BookAnswer, soil_then, soil_section, book_of, BookLeft, refused_on, soil_name, weather_name, land_name, not_one}
+use Rattle.book_run.specs.Book.{bad_count, headed, ending, after_rows, after_months, land_months, land_section, land_head, weather_then}
+use Rattle.book_run.specs.Book.{weather_section, weather_head, soil_of, soil_checked}
+use Rattle.book_run.proofs.Laws.{good-count, head_tested}
 use Rattle.book_rows.specs.RowText.{Each, none, more, Counted}
 use Rattle.book_rows.proofs.RowKinds.{plain_lines, LinesAre, written, other, rows_only, rows-length, rows-most}
 use Rattle.book_laws.specs.BookText.{weather_line_of, land_line_of, book_text, LandValues, WeatherSound, Written, list_of}
@@ -180,7 +180,8 @@ module _ (s : List ℕ) where
       → ((count next : ℕ) → head ≡ Some (count, next) → bad count ≡ false → Ends s (later count next).answer)
       → Ends s (headed head bad line rows later).answer
   by_head (Some (count, next)) bad line rows later rest =
-      by_test (bad count) Rows line rows (later count next) refl (λ good. rest count next refl good)
+      rw (head_tested (bad count) line count next rows later)
+      (by_test (bad count) Rows line rows (later count next) refl (λ good. rest count next refl good))
   by_head None bad line rows later rest = refused refl
 
   -- .. the soil, ..
@@ -249,11 +250,6 @@ module _ (s : List ℕ) where
       let left = land_months land weather (new_state soil) rows in
       by_months left.outcome.answer head _ (λ r place h. list_finds soil weather land.numbers rows all (land_fresh count s at (head + 1)) few h)
       (by_land (head + 1 + count) left.outcome.state counted (rows_only land-kind count s at (head + 1)) rest)
-
-good-count : (n : ℕ) → bad_count n ≡ false → Counted n
-good-count n h =
-    let parts = or_parts (ltb n 1) (ltb 1200 n) h in
-    record { least = ltb-false n 1 parts.0; most = ltb-false 1200 n parts.1 }
 
 book_ends : (s rows : List ℕ) → Ends s (book_of s rows).answer
 unfolding book_of soil_section weather_head weather_section land_head read_weather book_text

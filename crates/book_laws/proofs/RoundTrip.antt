@@ -4,23 +4,20 @@
 use Rattle.std.specs.Prelude.{Option, Some, Ok}
 use Rattle.std.specs.Option.{unwrap_or}
 use mathlib.Core.Path.{◌≡◌, refl, sym, ◌∙◌, ap}
-use mathlib.Core.Bool.{false}
 use mathlib.Core.List.{List, flat_map, append-nil}
 use Prim.Native.Nat.{ℕ, ◌+◌, ◌^◌, ◌≤◌, ◌<◌}
 use native.Mathlib.Omega.{arith}
 use borrow.Author.Tests.{le-ltb, eq-eqb}
 use lib.ListN.{length, length-append}
-use Rattle.std.proofs.lemmas.Bool.{or_from}
 use Rattle.book_lines.specs.Lines.{head_line, soil_line}
 use Rattle.book_lines.specs.LineText.{head_text, soil_text}
 use Rattle.book_values.proofs.Texts.{after}
 use Rattle.book_lines.proofs.Laws.{head_round, soil_round}
 use Rattle.book_rows.specs.Rows.{read_weather, read_land}
-use Rattle.book_run.specs.Book.{soil_name, weather_name, land_name, bad_count, ending, land_section, land_head}
+use Rattle.book_run.specs.Book.{soil_name, weather_name, land_name, ending, land_section, land_head}
 use Rattle.book_run.specs.Book.{weather_section, weather_head, soil_section, book_of}
-use Rattle.book_rows.specs.RowText.{Counted}
-use Rattle.book_laws.specs.BookText.{BookNumbers, weather_line_of, land_line_of, book_text, WellFormed}
-use Rattle.book_laws.specs.BookText.{weather_list, land_list, of_list, list_of}
+use Rattle.book_run.proofs.Laws.{count-passes}
+use Rattle.book_laws.specs.BookText.{BookNumbers, weather_line_of, land_line_of, book_text, WellFormed, weather_list, land_list, of_list, list_of}
 use Rattle.book_rows.proofs.RowKinds.{rows_same}
 use Rattle.book_laws.proofs.Rows.{plain_back, weather-kind, land-kind}
 use Rattle.book_laws.proofs.Size.{soil-below, text-size}
@@ -111,9 +108,6 @@ pub text_injective : (b b' : BookNumbers) → WellFormed b → WellFormed b' →
 text_injective b b' good good' e = same (book_text b') b b' (rw e at (reads b good)) (reads b' good')
 
 -- ---- the list of months
-
-count-passes : (n : ℕ) → Counted n → bad_count n ≡ false
-count-passes n counted = or_from _ _ (le-ltb n 1 counted.least) (le-ltb 1200 n counted.most)
 
 -- A well-formed book leaves what step 7's list of its numbers leaves: the answer, and every row.
 runs : (s : List ℕ) (b : BookNumbers) (rows : List ℕ) → WellFormed b → length s ≤ 65536 → Reads s b → book_of s rows ≡ list_of b rows

@@ -16,8 +16,7 @@ use Rattle.book_lines.specs.declared.WeatherNumbers.{WeatherNumbers}
 use Rattle.book_lines.specs.declared.LandNumbers.{LandNumbers}
 use Rattle.book_lines.specs.Lines.{spaced_value, ended, value_then, soil_line, weather_line, land_line}
 use Rattle.book_values.proofs.Texts.{after, PartRead}
-use Rattle.book_lines.proofs.Parts.{spaced_read, spaced_round, end_read, end_round}
-use Rattle.book_lines.proofs.Parts.{space_no_digit, end_no_digit}
+use Rattle.book_lines.proofs.Parts.{spaced_read, spaced_round, end_read, end_round, space_no_digit, end_no_digit}
 
 -- So many numbers, and a last one.
 abbrev pub Numbers : ℕ → Type 0

@@ -1,7 +1,8 @@
 -- The lines of document 01's book: a section's head, and its lines of values. A line that departs
 -- from its form has no numbers. A byte is a number, a text a list of bytes, and `at` the place
 -- where a line begins. A line is read with the place of the next one.
-use Rattle.std.specs.Prelude.{Bool, true, cond, ◌&&◌, List, [], ◌∷◌, ℕ, ◌+◌, Option, None, Some, length}
+use Rattle.std.specs.Prelude.{Bool, true, cond, ◌&&◌, List, [], ◌∷◌, ℕ, ◌+◌, Option, None, Some}
+use Rattle.std.specs.Prelude.{length}
 use Rattle.book_values.specs.Values.{byte_is, read_value, read_signed}
 use Rattle.book_lines.specs.declared.SoilNumbers.{SoilNumbers}
 use Rattle.book_lines.specs.declared.WeatherNumbers.{WeatherNumbers}

@@ -9,7 +9,8 @@ ghost use Rattle.book_lines.specs.Lines.{soil_line, weather_line, land_line};
 
 use book_values::{past, read_signed, read_value};
 
-// A soil's eight numbers, as its line has them.
+// A soil's eight numbers, as its line has them: the kind too is the number that was read. No `Soil`:
+// a line's form rests on nothing of the month.
 #[derive(Clone, Copy, PartialEq, Eq)]
 pub struct SoilNumbers {
     pub clay: u64,
@@ -38,7 +39,7 @@ pub struct LandNumbers {
     pub manure: u64,
 }
 
-// Whether these bytes stand at the place.
+// Whether these bytes stand at the place. Past the text's end there are none.
 #[tactic(auto, using(crate::proofs::Parts::starts_from))]
 fn bytes_are(s: &[u8], at: usize, bytes: &[u8]) -> bool
     ensures { result ≡ bytes_are s.now at bytes.now }

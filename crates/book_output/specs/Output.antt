@@ -4,6 +4,11 @@
 use Rattle.std.specs.Prelude.{List, [], ◌∷◌, ◌++◌, ℕ, zero, suc, ◌+◌, ◌*◌, get_or}
 use Rattle.book_digits.specs.Digits.{decimal, spaced, line_end}
 
+-- Always enough bytes for what is written for a book: 1,200 lines of at most 168, the first and the
+-- last.
+abbrev pub output_size : ℕ
+output_size = 204800
+
 -- So many numbers of the rows, from a place on, each after a space.
 unfoldable pub numbers : ℕ → List ℕ → ℕ → List ℕ
 numbers zero rows from = []

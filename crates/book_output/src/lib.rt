@@ -6,12 +6,14 @@
 ghost use Rattle.std.specs.Prelude.{◌≡◌, ◌+◌, ◌*◌, ◌≤◌, length};
 ghost use Rattle.book_digits.specs.Digits.{decimal, overwritten, spaced};
 ghost use Rattle.book_output.specs.Output.{numbers, row_lines, pools_line, named_line};
-ghost use Rattle.book_output.specs.Output.{finished_output, refused_output};
+ghost use Rattle.book_output.specs.Output.{finished_output, refused_output, output_size};
 ghost use Rattle.book_output.specs.Text.{HasRoom, Added};
 
 use book_digits::{write_bytes, write_decimal};
 
-// A text on its way into a lent slice, from the slice's start: so far it has `len` bytes.
+// A text on its way into a lent slice, from the slice's start: so far it has `len` bytes. There is no
+// heap for a String, and what std's Display puts is promised only where it says that it did. `most`
+// bounds what each method adds, whose text `added` gives; the room is counted by it.
 #[derive(Drop)]
 struct Text<'a> {
     out: &'a mut [u8],
@@ -100,12 +102,12 @@ impl Text<'_> {
 // Writes what a book that ran gives, with the line `TOTAL t g` at its end, and gives its length.
 // Months, totals and rows are apart, since they meet in this one call alone.
 pub fn write_finished(out: &mut [u8], months: usize, total: u64, co2: u64, rows: &[u64]) -> usize
-    requires room { 204800 ≤ length out.old }
+    requires room { output_size ≤ length out.old }
     requires rows { (months ≤ 1200) × (7 * months ≤ length rows.now) }
     ensures length { result ≡ length (finished_output months total co2 rows.now) }
     ensures written { out.new
         ≡ overwritten out.old 0 (finished_output months total co2 rows.now) }
-    ensures most { result ≤ 204800 }
+    ensures most { result ≤ output_size }
 {
     let mut text = Text { out, len: 0 };
     text.pools(months);
@@ -116,11 +118,11 @@ pub fn write_finished(out: &mut [u8], months: usize, total: u64, co2: u64, rows:
 
 // Writes what a refused book gives, the line `REFUSED number line`, and gives its length.
 pub fn write_refused(out: &mut [u8], number: u64, line: u64) -> usize
-    requires { 204800 ≤ length out.old }
+    requires { output_size ≤ length out.old }
     ensures length { result ≡ length (refused_output number line) }
     ensures written { out.new
         ≡ overwritten out.old 0 (refused_output number line) }
-    ensures most { result ≤ 204800 }
+    ensures most { result ≤ output_size }
 {
     let mut text = Text { out, len: 0 };
     text.named(b"REFUSED ", number, line);

@@ -6,7 +6,6 @@ use mathlib.Core.Bool.{Bool, true, false, cond}
 use mathlib.Core.List.{List}
 use Prim.Native.Nat.{ℕ, ◌+◌, ◌≤◌}
 use native.Mathlib.Omega.{arith}
-use borrow.Author.Tests.{ltb-false}
 use lib.Dec.{ltb, eqb}
 use lib.IntN.{ℤ}
 use lib.ListN.{length}
@@ -16,7 +15,6 @@ use Rattle.month_state.specs.declared.State.{State}
 use Rattle.month_state.specs.State.{new_state, five_pools}
 use Rattle.month_refusals.specs.declared.Refusal.TheVariants.{Length, Form, Rows}
 use Rattle.month_refusals.specs.Refusals.{soil_check}
-use Rattle.std.proofs.lemmas.Bool.{or_parts}
 use Rattle.list_run.specs.Run.{ListAnswer}
 use Rattle.book_lines.specs.declared.SoilNumbers.{SoilNumbers}
 use Rattle.book_lines.specs.Lines.{head_line, soil_line}
@@ -24,6 +22,7 @@ use Rattle.book_rows.specs.Rows.{RowsEnd, read_weather, read_land}
 use Rattle.book_run.specs.Book.{BookAnswer, after_months, land_months, land_section, land_head, weather_then, weather_section, weather_head}
 use Rattle.book_run.specs.Book.{BookLeft, refused_on, soil_name, weather_name, land_name, not_one, bad_count, headed, ending, after_rows}
 use Rattle.book_run.specs.Book.{soil_of, soil_checked, soil_then, soil_section, book_of}
+use Rattle.book_run.proofs.Laws.{good-count, head_tested}
 use Rattle.book_report.specs.Report.{months_run}
 
 -- What a book leaves says that at most 1,200 months were run.
@@ -39,7 +38,8 @@ test_few false x y h k = k refl
 headed_few : (v : Option (ℕ × ℕ)) (bad : ℕ → Bool) (line : ℕ) (rows : List ℕ) (later : ℕ → ℕ → BookLeft)
     → ((count next : ℕ) → bad count ≡ false → Few (later count next)) → Few (headed v bad line rows later)
 headed_few (Some (count, next)) bad line rows later h =
-    test_few (bad count) (refused_on Rows line rows) (later count next) (λ e. omega arith) (h count next)
+    rw (head_tested (bad count) line count next rows later)
+    (test_few (bad count) (refused_on Rows line rows) (later count next) (λ e. omega arith) (h count next))
 headed_few None bad line rows later h = omega arith
 
 weather_few : (end : RowsEnd) (rows : List ℕ) (later : ℕ → BookLeft) → ((at : ℕ) → Few (later at)) → Few (weather_then end rows later)
@@ -80,10 +80,9 @@ unfolding land_section
 land_few count s place head weather state rows good =
     let land = read_land count s place (head + 1) in
     let left = land_months land weather state rows in
-    let most : count ≤ 1200 = ltb-false 1200 count (or_parts (ltb count 1) (ltb 1200 count) good).1 in
     omega (
       arith,
-      most,
+      (good-count count good).most,
       months_few left.outcome.answer head (after_rows land.ends s (head + 1 + count) count left.outcome.state),
       rows_few land.ends s (head + 1 + count) count left.outcome.state,
     )

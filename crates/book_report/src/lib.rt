@@ -4,15 +4,22 @@
 
 ghost use Rattle.std.specs.Prelude.{◌≡◌, ◌≤◌, length};
 ghost use Rattle.book_digits.specs.Digits.{overwritten};
-ghost use Rattle.book_report.specs.Report.{months_run, output_of, report_of};
-ghost use Rattle.book_report.specs.Report.{book_refused};
+ghost use Rattle.book_report.specs.Report.{months_run, output_of, report_of, book_refused};
 
 use book_output::{write_finished, write_refused};
-use book_run::{BookAnswer, run_book};
+use book_run::{BookAnswer, ROWS_WIDTH, run_book};
+
+// Always enough bytes for what is written for a book: 1,200 lines of at most 168, the first and the
+// last.
+pub const OUTPUT_SIZE: usize = 204_800;
 
 // Writes what a book's answer and its rows give, and gives the length.
 #[tactic(auto, unfolding(crate::specs::Report::output_of))]
-pub fn write_answer(answer: BookAnswer, rows: &[u64; 8400], out: &mut [u8; 204_800]) -> usize
+pub fn write_answer(
+    answer: BookAnswer,
+    rows: &[u64; ROWS_WIDTH],
+    out: &mut [u8; OUTPUT_SIZE],
+) -> usize
     requires { months_run answer ≤ 1200 }
     ensures length { result ≡ length (output_of answer rows.now) }
     ensures written { out.new
@@ -25,8 +32,8 @@ pub fn write_answer(answer: BookAnswer, rows: &[u64; 8400], out: &mut [u8; 204_8
     }
 }
 
-// What was written for a book: its length, and whether it is a refusal. A flag, since both kinds have
-// a length.
+// What was written for a book: its length, and whether it is a refusal. A flag, since both kinds
+// have a length.
 #[derive(Clone, Copy)]
 pub struct Written {
     pub length: usize,
@@ -36,14 +43,15 @@ pub struct Written {
 // Runs a book and writes its output from the start of `out`. Gives the output's length, and whether
 // the book was refused.
 #[tactic(auto, unfolding(crate::specs::Report::report_of, crate::specs::Report::book_refused))]
-pub fn report(book: &[u8], out: &mut [u8; 204_800]) -> Written
+pub fn report(book: &[u8], out: &mut [u8; OUTPUT_SIZE]) -> Written
     ensures length { result.length ≡ length (report_of book.now) }
     ensures refused { result.refused ≡ book_refused book.now }
     ensures written { out.new
         ≡ overwritten out.old 0 (report_of book.now) }
     ensures within { result.length ≤ length out.new }
 {
-    let mut rows = [0u64; 8400];
+    // Of a fixed size: there is no heap.
+    let mut rows = [0u64; ROWS_WIDTH];
     let answer = run_book(book, &mut rows);
     let length = write_answer(answer, &rows, out);
     Written {

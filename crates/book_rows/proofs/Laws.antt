@@ -6,7 +6,7 @@ use Rattle.std.specs.Option.{ok_or}
 use Rattle.std.specs.Result.{result_ok}
 use Rattle.month_refusals.specs.Asked.{◌on◌}
 use mathlib.Core.Path.{◌≡◌, refl, sym, ◌∙◌, ap}
-use mathlib.Core.List.{List, [], ◌∷◌, ◌++◌, append-nil, append_assoc}
+use mathlib.Core.List.{List, [], ◌++◌, append-nil, append_assoc}
 use Prim.Native.Nat.{ℕ, zero, suc, ◌+◌, ◌-◌, ◌*◌, ◌≤◌, ◌<◌, ◌^◌}
 use native.Mathlib.Nat.{add-suc, sub-zero, add-zero, mul-zero, mul-le-mul_left}
 use native.Mathlib.Numerals.{add-one}
@@ -18,7 +18,7 @@ use mir.Facts.{to_z_pos, to_z-of_z}
 use lib.ListN.{length, take, drop, length-append, drop_of_length-le, take-append-drop}
 use lib.Seq.{sets, length-sets, length-take-le, take_at, drop-drop}
 use Rattle.month_state.proofs.Counting.{sub-suc, none_left}
-use Rattle.list_rows.specs.Rows.{weather_width, land_width, land_numbers}
+use Rattle.list_rows.specs.Rows.{weather_width, land_width}
 use Rattle.month_layouts.proofs.Layouts.{put_taken, put_dropped}
 use Rattle.list_rows.proofs.Layouts.{weather_of_length, land_of_length}
 use Rattle.month_refusals.specs.declared.Refusal.{Refusal}
@@ -83,9 +83,15 @@ weather_bits source n known warm fits =
 
 pub land_bits :
     (n : LandNumbers) → (n.cover < 2 ^ 63) × (n.plant < 2 ^ 63) × (n.manure < 2 ^ 63)
-    → to_z w64 n.cover ∷ to_z w64 n.plant ∷ to_z w64 n.manure ∷ pos 1000 ∷ [] ≡ land_numbers (land_of n.cover n.plant n.manure)
-unfolding land_numbers
-land_bits n fits = λ i. to_z_pos w64 fits.0 i ∷ to_z_pos w64 fits.1 i ∷ to_z_pos w64 fits.2 i ∷ pos 1000 ∷ []
+    → record { cover = to_z w64 n.cover; plant = to_z w64 n.plant; manure = to_z w64 n.manure; activity = pos 1000 }
+    ≡ land_of n.cover n.plant n.manure
+land_bits n fits =
+    λ i. record {
+      cover = to_z_pos w64 fits.0 i;
+      plant = to_z_pos w64 fits.1 i;
+      manure = to_z_pos w64 fits.2 i;
+      activity = pos 1000;
+    }
 
 -- ---- the first row and the later ones
 

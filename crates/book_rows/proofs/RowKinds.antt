@@ -21,8 +21,7 @@ use Rattle.month_refusals.specs.Refusals.{weather_asked, weather_check}
 use Rattle.month_refusals.proofs.First.{all_own, finds_own}
 use Rattle.month_refusals.proofs.Accepted.{Between, natural_most, weather_ready}
 use Rattle.book_values.proofs.Texts.{after}
-use Rattle.book_rows.specs.Rows.{weather_for, weather_passed, as_weather, RowGives, numbers, refused, weather_gives, RowsRead}
-use Rattle.book_rows.specs.Rows.{row_then, read_rows}
+use Rattle.book_rows.specs.Rows.{weather_for, weather_passed, as_weather, RowGives, numbers, refused, weather_gives, RowsRead, row_then, read_rows}
 use Rattle.book_rows.specs.RowText.{lines_from, Each, none, more, SoundFrom}
 use Rattle.book_rows.proofs.Laws.{before}
 
@@ -105,7 +104,9 @@ module _
         let here : drop at s ≡ line number x ++ (lines_from line (suc number) xs ++ rest) =
         e ∙ append_assoc (line number x) (lines_from line (suc number) xs) rest in
         let next = at + length (line number x) in
-        let read = rows_back s next (suc number) rest (omega arith) later (after s at (line number x) (lines_from line (suc number) xs ++ rest) here) in
+        let read =
+        rows_back s next (suc number) rest (omega arith) later
+        (after s at (line number x) (lines_from line (suc number) xs ++ rest) here) in
         rw (kind.back x s at number (lines_from line (suc number) xs ++ rest) (omega arith) good here)
         (ap (λ (l : List ℤ). values x ++ l) read.0, read.1 ∙ ap Ok (simp length-append (omega arith)))
 

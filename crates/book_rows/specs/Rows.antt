@@ -2,11 +2,11 @@
 -- book's WEATHER and LAND sections, and of a table. A byte is a number, a text a list of bytes, and
 -- `place` where a line begins.
 use Rattle.std.specs.Prelude.{Option, Some, None, Result, Ok, Err}
+use Rattle.std.specs.Prelude.{◌≡◌, List, [], ◌++◌, ℕ, zero, suc, ◌<◌, ◌^◌, ℤ, pos, length, drop}
 use Rattle.book_lines.specs.declared.WeatherNumbers.{WeatherNumbers}
 use Rattle.book_lines.specs.declared.LandNumbers.{LandNumbers}
 use Rattle.month_refusals.specs.declared.RefusedAt.{RefusedAt}
 use Rattle.month_refusals.specs.Asked.{◌on◌, Check}
-use Rattle.std.specs.Prelude.{◌≡◌, List, [], ◌++◌, ℕ, zero, suc, ◌<◌, ◌^◌, ℤ, pos, length, drop}
 use Rattle.month_state.specs.declared.Weather.{Weather}
 use Rattle.month_state.specs.declared.Land.{Land}
 use Rattle.list_rows.specs.Rows.{weather_numbers, land_numbers}

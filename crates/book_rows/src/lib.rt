@@ -3,13 +3,12 @@
 #![tactic(auto)]
 
 ghost use Rattle.std.specs.Prelude.{◌≡◌, ℕ, ◌*◌, ◌≤◌, List, length};
-ghost use Rattle.list_rows.specs.Rows.{weather_width, land_width};
-ghost use Rattle.book_rows.specs.Rows.{LineFits, as_weather, weather_row, land_row};
-ghost use Rattle.book_rows.specs.Rows.{RowGives, weather_gives, land_gives, row_gives};
-ghost use Rattle.book_rows.specs.Rows.{read_rows, begun_with};
+ghost use Rattle.list_rows.specs.Rows.{weather_width};
+ghost use Rattle.book_rows.specs.Rows.{LineFits, as_weather, weather_row, land_row, RowGives};
+ghost use Rattle.book_rows.specs.Rows.{weather_gives, land_gives, row_gives, read_rows, begun_with};
 
-use book_lines::{LandNumbers, WeatherNumbers, land_line, weather_line};
-use list_rows::put_numbers;
+use book_lines::{WeatherNumbers, land_line, weather_line};
+use list_rows::{land_numbers, put_numbers, weather_numbers};
 use month_checks::check_weather;
 use month_refusals::{Refusal, RefusedAt};
 use month_state::{Land, Weather};
@@ -17,7 +16,11 @@ use month_state::{Land, Weather};
 // The activity of a book's additions, in thousandths: that of fresh carbon.
 const FRESH: i64 = 1000;
 
+// The source of a book's evaporation: open pan.
+const OPEN_PAN: i64 = 0;
+
 // A line of weather as a row: another form is refused as `malformed`, then 13, 14 and 19 are asked.
+// Numbers that were read fit 64 bits with a sign (`LineFits`), so that a cast is enough.
 pub fn as_weather(
     malformed: Refusal,
     source: i64,
@@ -54,8 +57,8 @@ impl RowLine for WeatherOfBook {
     ghost gives = { λ s place line. weather_gives (weather_row s place) };
 
     fn row(s: &[u8], place: usize, _line: u64) -> Result<([i64; 4], usize), Refusal> {
-        let (w, next) = as_weather(Refusal::Form, 0, weather_line(s, place))?;
-        Ok(([w.temperature, w.rain, w.evaporation, w.source], next))
+        let (weather, next) = as_weather(Refusal::Form, OPEN_PAN, weather_line(s, place))?;
+        Ok((weather_numbers(weather), next))
     }
 }
 
@@ -67,34 +70,36 @@ impl RowLine for LandOfBook {
 
     fn row(s: &[u8], place: usize, _line: u64) -> Result<([i64; 4], usize), Refusal> {
         let (numbers, next) = land_line(s, place).ok_or(Refusal::Form)?;
-        let LandNumbers {
-            cover,
-            plant,
-            manure,
-        } = numbers;
-        Ok(([cover as i64, plant as i64, manure as i64, FRESH], next))
+        let land = Land {
+            cover: numbers.cover as i64,
+            plant: numbers.plant as i64,
+            manure: numbers.manure as i64,
+            activity: FRESH,
+        };
+        Ok((land_numbers(land), next))
     }
 }
 
 // How reading rows ends: with the place of the next line, or refused on a line.
 pub type RowsEnd = Result<usize, RefusedAt>;
 
-// What reading rows gives: how many were read, and how it ended.
+// How many rows were put in the slice, and how reading them ended.
 #[derive(Clone, Copy)]
-pub struct RowsRead {
+pub struct RowsPut {
     pub rows: usize,
     pub ends: RowsEnd,
 }
 
 // So many rows of a kind from a place and a line on. Their numbers are written from the slice's
-// first place on, up to those of the first row that is at fault.
+// first place on, up to those of the first row that is at fault. The bounds of count and line stay
+// clauses, as in list_run: places and lines are counted on without a test.
 pub fn read_rows<R: RowLine>(
     s: &[u8],
     place: usize,
     line: u64,
     count: usize,
     numbers: &mut [i64],
-) -> RowsRead
+) -> RowsPut
     requires { (weather_width * count ≤ length numbers.old) × (count ≤ 1200) × (line ≤ 2000) }
     ensures rows { weather_width * result.rows
         ≡ length (read_rows R.gives count s.now place line).numbers }
@@ -104,20 +109,23 @@ pub fn read_rows<R: RowLine>(
 {
     let mut next = place;
     for i in 0..count {
-        let on = line + i as u64;
-        match R::row(s, next, on) {
+        let row_line = line + i as u64;
+        match R::row(s, next, row_line) {
+            // Taken apart by itself: the check reads no array in an arm's pattern.
             Ok(found) => {
                 let (row, after) = found;
                 put_numbers(numbers, i, row);
                 next = after;
             }
             Err(refusal) => {
-                let ends = Err(RefusedAt { refusal, place: on });
-                return RowsRead { rows: i, ends };
+                return RowsPut {
+                    rows: i,
+                    ends: Err(refusal.on(row_line)),
+                };
             }
         }
     }
-    RowsRead {
+    RowsPut {
         rows: count,
         ends: Ok(next),
     }

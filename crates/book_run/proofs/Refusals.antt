@@ -7,6 +7,7 @@ use Rattle.std.specs.Prelude.{Option, Some, None, Ok, Err}
 use Rattle.book_lines.specs.declared.SoilNumbers.{SoilNumbers}
 use Rattle.book_lines.specs.declared.LandNumbers.{LandNumbers}
 use Rattle.month_refusals.specs.Asked.{◌on◌, Check, ◌if◌, first_of, Placed, at, Found, refused, found, told, number_and_place, Exactly}
+use Rattle.month_refusals.specs.Asked.{placed_found, placed_told}
 use mathlib.Core.Path.{◌≡◌, refl, sym, ◌∙◌, ap}
 use mathlib.Core.Bool.{Bool, true, false, not, cond}
 use mathlib.Core.List.{List, [], ◌∷◌, ◌++◌, append_assoc}
@@ -27,18 +28,17 @@ use Rattle.month_refusals.specs.Refusals.{soil_asked, soil_check, entries_asked,
 use Rattle.month_refusals.proofs.First.{found_later, or_else, found_at, found-append, found_then, exactly}
 use Rattle.month_call.specs.Month.{list_month}
 use Rattle.list_run.specs.Run.{ListAnswer, months_asked}
-use Rattle.month_refusals.specs.Asked.{placed_found, placed_told}
 use Rattle.list_run.proofs.Refusals.{months-found}
 use Rattle.book_lines.specs.Lines.{head_line, soil_line, weather_line, land_line}
-use Rattle.book_rows.specs.Rows.{RowsEnd}
-use Rattle.book_rows.specs.Rows.{land_of, weather_row, as_land, land_row, land_gives, RowsRead, row_then, read_rows, read_weather, read_land}
+use Rattle.book_rows.specs.Rows.{RowsEnd, land_of, weather_row, as_land, land_row, land_gives, RowsRead, row_then, read_rows, read_weather, read_land}
 use Rattle.book_rows.proofs.Found.{end_finds, weather-found}
 use Rattle.book_run.specs.declared.Finished.{Finished}
 use Rattle.book_run.specs.Book.{BookLeft, refused_on, soil_name, weather_name, land_name, not_one, bad_count, headed, BookAnswer}
 use Rattle.book_run.specs.Book.{ending, after_rows, after_months, land_months, land_section, land_head, weather_then, weather_section}
 use Rattle.book_run.specs.Book.{weather_head, soil_of, soil_checked, soil_then, soil_section, book_of}
-use Rattle.book_run.specs.BookAsked.{formed, head_then, month_entries, land_line_then, land_asked_from, weather_lines_asked}
-use Rattle.book_run.specs.BookAsked.{after_weather, land_asked, weather_section_asked, weather_head_asked, soil_line_then, soil_section_asked, book_asked}
+use Rattle.book_run.proofs.Laws.{head_tested}
+use Rattle.book_run.specs.BookAsked.{formed, head_then, month_entries, land_line_then, land_asked_from, weather_lines_asked, after_weather}
+use Rattle.book_run.specs.BookAsked.{land_asked, weather_section_asked, weather_head_asked, soil_line_then, soil_section_asked, book_asked}
 
 -- What a book leaves finds.
 abbrev finding : BookLeft → Found
@@ -61,7 +61,8 @@ head_found :
     → finding (headed value bad line rows later) ≡ found (head_then value bad line asked)
 unfolding found at
 head_found (Some (count, next)) bad line rows later asked same =
-    one_found (bad count) Rows line rows (later count next) (asked count next) (same count next)
+    rw (head_tested (bad count) line count next rows later)
+    (one_found (bad count) Rows line rows (later count next) (asked count next) (same count next))
 head_found None bad line rows later asked same = refl
 
 -- ---- the land

@@ -4,10 +4,10 @@
 -- A byte is a number, a text a list of bytes, and `place` where a line begins. The book begins at
 -- the end of this file, where definitions stand before their use.
 use Rattle.std.specs.Prelude.{Option, Some, None, Result, Ok, Err}
+use Rattle.std.specs.Prelude.{Bool, cond, not, ◌||◌, List, [], ◌∷◌, ℕ, ◌+◌, ltb, eqb, ℤ, length}
 use Rattle.month_refusals.specs.declared.RefusedAt.{RefusedAt}
 use Rattle.book_run.specs.declared.Finished.{Finished}
 use Rattle.month_refusals.specs.Asked.{◌on◌, Check}
-use Rattle.std.specs.Prelude.{Bool, cond, not, ◌||◌, List, [], ◌∷◌, ℕ, ◌+◌, ltb, eqb, ℤ, length}
 use Rattle.step_pools.specs.Pools.{grams}
 use Rattle.month_state.specs.declared.Soil.{Soil}
 use Rattle.month_state.specs.declared.State.{State}
@@ -54,18 +54,19 @@ not_one count = not (eqb count 1)
 abbrev pub bad_count : ℕ → Bool
 bad_count count = ltb count 1 || ltb 1200 count
 
--- A head on its line: another form is 2, a bad count 3; else its section follows, with the count
--- and the place of the next line.
-abbrev pub headed : Option (ℕ × ℕ) → (ℕ → Bool) → ℕ → List ℕ → (ℕ → ℕ → BookLeft) → BookLeft
-headed (Some (count, next)) bad line rows later =
-    cond (bad count) (refused_on Rows line rows) (later count next)
-headed None bad line rows later = refused_on Form line rows
-
--- The head of the weather or the land on its line, by itself: the count and the place of the next
+-- A head on its line: another form is 2, a bad count 3; else the count and the place of the next
 -- line.
-abbrev pub counted : Option (ℕ × ℕ) → ℕ → Result (ℕ × ℕ) RefusedAt
-counted (Some (count, next)) line = cond (bad_count count) (Err (Rows on line)) (Ok (count, next))
-counted None line = Err (Form on line)
+abbrev pub counted : Option (ℕ × ℕ) → (ℕ → Bool) → ℕ → Result (ℕ × ℕ) RefusedAt
+counted (Some (count, next)) bad line = cond (bad count) (Err (Rows on line)) (Ok (count, next))
+counted None bad line = Err (Form on line)
+
+-- What follows a head: its refusal, or its section, from the count and the place of the next line.
+abbrev pub counted_then : Result (ℕ × ℕ) RefusedAt → List ℕ → (ℕ → ℕ → BookLeft) → BookLeft
+counted_then (Ok (count, next)) rows later = later count next
+counted_then (Err e) rows later = refused_on e.refusal e.place rows
+
+abbrev pub headed : Option (ℕ × ℕ) → (ℕ → Bool) → ℕ → List ℕ → (ℕ → ℕ → BookLeft) → BookLeft
+headed head bad line rows later = counted_then (counted head bad line) rows later
 
 -- ---- the land, and the end
 

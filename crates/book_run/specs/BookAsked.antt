@@ -2,11 +2,10 @@
 -- number". The first of these that applies is the book's refusal, and its place the line
 -- (proofs/Refusals.antt). Past a line that is malformed nothing is asked any more, whatever stands
 -- in the list.
-use Rattle.std.specs.Prelude.{Option, Some, None, Ok, Err}
+use Rattle.std.specs.Prelude.{Option, Some, None, Ok, Err, Bool, true, false, not, List, [], ◌∷◌}
+use Rattle.std.specs.Prelude.{◌++◌, ℕ, zero, suc, ltb, eqb, ◌+◌, ◌*◌, ◌%◌, ℤ, pos, length}
 use Rattle.book_lines.specs.declared.SoilNumbers.{SoilNumbers}
 use Rattle.book_lines.specs.declared.LandNumbers.{LandNumbers}
-use Rattle.std.specs.Prelude.{Bool, true, false, not, List, [], ◌∷◌, ◌++◌, ℕ, zero, suc, ltb, eqb}
-use Rattle.std.specs.Prelude.{◌+◌, ◌*◌, ◌%◌, ℤ, pos, length}
 use Rattle.month_state.specs.declared.State.{State}
 use Rattle.month_state.specs.declared.Land.{Land}
 use Rattle.month_state.specs.declared.Entries.{Entries}

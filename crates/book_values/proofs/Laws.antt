@@ -7,8 +7,7 @@ use mathlib.Core.Bool.{true, false}
 use mathlib.Core.Logic.{inl, inr}
 use mathlib.Core.List.{List, [], ◌∷◌, ◌++◌}
 use Prim.Native.Nat.{ℕ, zero, suc, ◌+◌, ◌-◌, ◌*◌, ◌^◌, ◌≤◌, ◌<◌}
-use native.Mathlib.Nat.{add-zero, zero-add, pow-le-pow_right, mul-le-mul_left, mul-le-mul_right}
-use native.Mathlib.Nat.{lt_of_lt_of_le, le_trans}
+use native.Mathlib.Nat.{add-zero, zero-add, pow-le-pow_right, mul-le-mul_left, mul-le-mul_right, lt_of_lt_of_le, le_trans}
 use native.Mathlib.Numerals.{sub-one}
 use native.Mathlib.Omega.{arith}
 use native.Mathlib.Decide.{dec_lt}

@@ -46,16 +46,6 @@ module _ (read : List ℕ → ℕ → Option (ℕ × ℕ)) (s : List ℕ) (at : 
   pub signed_plain : byte_is s at 45 ≡ false → signed_by read s at ≡ without_minus (read s at)
   signed_plain e = rw (sym (byte_is_read s at 45 (omega arith)) ∙ e)
 
-  -- The same by the minus that was found, and the place of the value.
-  pub signed_is :
-      cond (byte_is s at 45) (after_minus (read s (cond (byte_is s at 45) (at + 1) at)))
-      (without_minus (read s (cond (byte_is s at 45) (at + 1) at)))
-      ≡ signed_by read s at
-  signed_is = elim (either (byte_is s at 45)) [
-    | inl b ↦ rw b (sym (signed_minus b))
-    | inr b ↦ rw b (sym (signed_plain b))
-  ]
-
 -- ROUND TRIP of a number with a sign, where numbers without one are read back and don't begin with a minus.
 pub sign_round : (read : List ℕ → ℕ → Option (ℕ × ℕ)) (text : ℕ → List ℕ) {limit : ℕ} (z : ℤ) (s : List ℕ) (at : ℕ) (rest : List ℕ) →
     ((n place : ℕ) → n < limit → drop place s ≡ text n ++ rest → read s place ≡ Some (n, place + length (text n))) →

@@ -1,8 +1,8 @@
 -- How a value of document 01's book is read. A byte is a number, a text a list of bytes. A value is
 -- read with the place after it. `get_or s at 0` is the byte at a place; past the end it is 0, which
 -- is no digit and no minus.
-use Rattle.std.specs.Prelude.{Bool, cond, ◌&&◌, List, ℕ, zero, suc, ◌+◌, ◌-◌, ◌*◌, leb, ltb, eqb, ℤ, pos, neg_ℤ}
-use Rattle.std.specs.Prelude.{Option, None, Some, length, get_or}
+use Rattle.std.specs.Prelude.{Bool, cond, ◌&&◌, List, ℕ, zero, suc, ◌+◌, ◌-◌, ◌*◌, leb, ltb, eqb, ℤ}
+use Rattle.std.specs.Prelude.{pos, neg_ℤ, Option, None, Some, length, get_or}
 
 -- The digits 0 to 9 are the bytes 48 to 57.
 unfoldable pub is_digit : ℕ → Bool
@@ -35,11 +35,6 @@ unfoldable pub read_value : List ℕ → ℕ → Option (ℕ × ℕ)
 read_value s at =
     cond (eqb (get_or s at 0) 48) (Some (0, at + 1))
     (cond (is_digit (get_or s at 0)) (Some (more_digits 9 (get_or s at 0 - 48) s (at + 1))) None)
-
--- Whether a minus (byte 45) stands at the place, with the place after it; the place itself where
--- none stands.
-unfoldable pub minus_at : List ℕ → ℕ → Bool × ℕ
-minus_at s at = (byte_is s at 45, cond (byte_is s at 45) (at + 1) at)
 
 -- A value as it stands, ..
 unfoldable pub without_minus : Option (ℕ × ℕ) → Option (ℤ × ℕ)

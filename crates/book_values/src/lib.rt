@@ -1,12 +1,12 @@
 // The values of document 01's book, read at a place of a byte slice, each with the place after it.
 // specs/Values.antt says what each function gives. A text and its place stay two parameters, also
-// in the crates above: the text is one and the same and only the place moves on, so that a struct
-// of both would be made anew at each step, and contracts would take it apart.
+// in the crates above: the papers' definitions go by places of one text, and so do the laws by which
+// what was written is read back. (The tests' reader, of which no such law speaks, is a struct.)
 #![tactic(auto)]
 
 ghost use Rattle.std.specs.Prelude.{◌≡◌, cond, ℕ, ◌^◌, ◌≤◌, ◌<◌, length};
 ghost use Rattle.book_values.specs.Values.{digit_at, byte_is, past, more_digits, read_value};
-ghost use Rattle.book_values.specs.Values.{minus_at, without_minus, after_minus, read_signed};
+ghost use Rattle.book_values.specs.Values.{without_minus, after_minus, read_signed};
 
 // A value has up to so many digits after its first one.
 const MORE_DIGITS: usize = 9;
@@ -45,7 +45,8 @@ pub fn past(s: &[u8], at: usize, byte: u8) -> Option<usize>
     }
 }
 
-// The digits after a value's first one, which stands before the place.
+// The digits after a value's first one, which stands before the place. The place goes on with each
+// digit that is there; the loop counts how many there may be.
 #[tactic(auto, using(crate::proofs::Reading::begun, crate::proofs::Reading::value_below, crate::proofs::Reading::digit_small, crate::proofs::Reading::taken, crate::proofs::Reading::stops, crate::proofs::Reading::ends))]
 fn more_digits(s: &[u8], at: usize, first: u64) -> (u64, usize)
     requires { (at ≤ length s.now) × (first < 10) }
@@ -74,27 +75,23 @@ pub fn read_value(s: &[u8], at: usize) -> Option<(u64, usize)>
     }
 }
 
-// Whether a minus stands at the place, and the place where the value begins.
-#[tactic(auto, unfolding(crate::specs::Values::minus_at, crate::specs::Values::past))]
-pub fn minus_at(s: &[u8], at: usize) -> (bool, usize)
-    ensures { result ≡ minus_at s.now at }
-{
-    match past(s, at, b'-') {
-        Some(first) => (true, first),
-        None => (false, at),
-    }
-}
-
-// A value that was read after a minus, or without one. It fits 64 bits with a sign.
-#[tactic(auto, using(crate::proofs::Minus::less_read), unfolding(crate::specs::Values::after_minus, crate::specs::Values::without_minus))]
-pub fn with_sign(minus: bool, value: Option<(u64, usize)>) -> Option<(i64, usize)>
+// A value as a number with a sign: as it stands, ..
+#[tactic(auto, unfolding(crate::specs::Values::without_minus))]
+pub fn without_minus(value: Option<(u64, usize)>) -> Option<(i64, usize)>
     requires { (n next : ℕ) → value ≡ Some (n, next) → n < 2 ^ 63 }
-    ensures { result ≡ cond minus (after_minus value) (without_minus value) }
+    ensures { result ≡ without_minus value }
 {
     let (n, next) = value?;
-    if !minus {
-        return Some((n as i64, next));
-    }
+    Some((n as i64, next))
+}
+
+// .. and after a minus, which is not before 0.
+#[tactic(auto, using(crate::proofs::Minus::less_read), unfolding(crate::specs::Values::after_minus))]
+pub fn after_minus(value: Option<(u64, usize)>) -> Option<(i64, usize)>
+    requires { (n next : ℕ) → value ≡ Some (n, next) → n < 2 ^ 63 }
+    ensures { result ≡ after_minus value }
+{
+    let (n, next) = value?;
     if n == 0 {
         return None;
     }
@@ -102,10 +99,12 @@ pub fn with_sign(minus: bool, value: Option<(u64, usize)>) -> Option<(i64, usize
 }
 
 // The value at a place of the text, where it may have a minus.
-#[tactic(auto, using(crate::proofs::Laws::value_fits, crate::proofs::Minus::signed_is), unfolding(crate::specs::Values::read_signed, crate::specs::Values::minus_at))]
+#[tactic(auto, using(crate::proofs::Laws::value_fits, crate::proofs::Minus::signed_minus, crate::proofs::Minus::signed_plain), unfolding(crate::specs::Values::read_signed, crate::specs::Values::past))]
 pub fn read_signed(s: &[u8], at: usize) -> Option<(i64, usize)>
     ensures { result ≡ read_signed s.now at }
 {
-    let (minus, first) = minus_at(s, at);
-    with_sign(minus, read_value(s, first))
+    match past(s, at, b'-') {
+        Some(first) => after_minus(read_value(s, first)),
+        None => without_minus(read_value(s, at)),
+    }
 }

@@ -12,12 +12,12 @@ use Rattle.month_refusals.specs.Asked.{Check}
 use Rattle.month_refusals.specs.Refusals.{carbon_bounds_passed, modern_above, bounds_passed, out_of_turn, limit_reached, ceiling_passed}
 use Rattle.month_refusals.specs.Refusals.{bounds_asked, state_asked, turn_asked, carbon_asked, entries_asked, month_asked, month_check}
 use Rattle.month_state.specs.declared.Outcome.{Outcome}
-use Rattle.month_call.specs.Month.{next_deficit, next_rate, moved_to, outcome_of, month_call}
-use Rattle.month_call.specs.Month.{Answer}
+use Rattle.month_call.specs.Month.{next_deficit, next_rate, moved_to, outcome_of, month_call, Answer}
 
 -- The kept ones aside, the same is found, ..
 check_aside : (s : State) (number : ℕ) (e : Entries) → s.kept ≤ kept_limit → month_check s number e ≡ month_check (kept_aside s) number e
-unfolding month_asked state_asked bounds_asked bounds_passed carbon_bounds_passed modern_above turn_asked out_of_turn entries_asked limit_reached carbon_asked ceiling_passed
+unfolding month_asked state_asked bounds_asked bounds_passed carbon_bounds_passed modern_above
+    turn_asked out_of_turn entries_asked limit_reached carbon_asked ceiling_passed
 check_aside s number e few = rw (le-ltb kept_limit s.kept few)
 
 -- .. and what is found gives the same outcome.

@@ -15,11 +15,10 @@ use Rattle.month_state.specs.declared.Soil.{Soil}
 use Rattle.month_state.specs.declared.State.{State}
 use Rattle.month_state.specs.State.{new_state, kept_aside}
 use Rattle.month_layouts.specs.Layouts.{memory_width, state_from}
-use Rattle.month_refusals.specs.Asked.{Check}
-use Rattle.month_refusals.specs.Asked.{first_of}
+use Rattle.month_refusals.specs.Asked.{Check, first_of}
 use Rattle.month_refusals.specs.Refusals.{soil_check, month_check}
 use Rattle.month_state.specs.declared.Outcome.{Outcome}
-use Rattle.month_call.specs.Month.{moved_to, outcome_of, month_call}
+use Rattle.month_call.specs.Month.{moved_to, outcome_of, month_call, Answer}
 use Rattle.month_call.proofs.Laws.{accepted_runs}
 use Rattle.month_demand3.specs.Calls.{Call, is_done, accepts, run_calls, accepted_calls, added_carbon}
 use Rattle.month_demand3.specs.Recurrence.{Exact, Leads, exact_start, feed}
@@ -33,7 +32,6 @@ use Rattle.kept_demand3.specs.Demand.{Lent, EndsAsRemaining, end_of, months_of, 
 use Rattle.kept_demand3.proofs.Remains as months
 use Rattle.kept_demand3.proofs.Remains.{alone, InTurn, Holds, holds-none, holds_moved, holds_taken}
 use Rattle.kept_demand3.proofs.CallsAlone.{accepted_of, calls-state, calls-remaining, accepted-length, accepted-added, accepted_leads}
-use Rattle.month_call.specs.Month.{Answer}
 
 -- ---- along a list
 
@@ -100,7 +98,8 @@ module _ (f : Field) (lent : Lent f) (none : f.state.kept ≡ 0) (acts : List Ac
   at-end : HoldsAll f.state (run_acts f acts) (remain f acts [])
   at-end =
       acts_hold acts f
-      (subst (λ (n : ℕ). Holds f.state f n []) (sym none) (holds-none f (record { pools = lent.pools; modern = lent.modern }) (omega arith) lent.memory))
+      (subst (λ (n : ℕ). Holds f.state f n []) (sym none)
+      (holds-none f (record { pools = lent.pools; modern = lent.modern }) (omega arith) lent.memory))
 
   ends : EndsAsRemaining f acts
   unfolding run_calls accepted_calls
@@ -159,7 +158,14 @@ field-demand3 =
     record {
       holds = λ s four sound memory long acts. for_acts s four memory long acts sound;
       begun_with_none = ends;
-      without_backs = λ s memory l. record { end = end_is s memory l; months = counted s memory l; carbon = carried s memory l; before = before s memory l };
+      without_backs =
+          λ s memory l.
+          record {
+            end = end_is s memory l;
+            months = counted s memory l;
+            carbon = carried s memory l;
+            before = before s memory l;
+          };
     }
 
 -- The theorem, as the call names it.

@@ -15,7 +15,7 @@ use Rattle.month_layouts.specs.Layouts.{memory_width}
 use Rattle.month_layouts.proofs.Layouts.{Four}
 use Rattle.month_refusals.specs.Refusals.{month_check}
 use Rattle.month_state.specs.declared.Outcome.{Outcome}
-use Rattle.month_call.specs.Month.{moved_to, outcome_of}
+use Rattle.month_call.specs.Month.{moved_to, outcome_of, Answer}
 use Rattle.month_call.proofs.Laws.{accepted_runs, accepted_moves}
 use Rattle.month_demand3.specs.Calls.{Call, state_after}
 use Rattle.kept_months.specs.Kept.{keep, latest}
@@ -23,7 +23,6 @@ use Rattle.kept_months.proofs.Laws.{keep-length}
 use Rattle.kept_months.proofs.Places.{read_at, keep_there, keep_others, latest_read}
 use Rattle.kept_demand3.specs.Acts.{Field}
 use Rattle.kept_demand3.proofs.Aside.{same_check, same_outcome}
-use Rattle.month_call.specs.Month.{Answer}
 
 -- ---- calls run alone, the latest first
 

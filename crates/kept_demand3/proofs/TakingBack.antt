@@ -13,23 +13,20 @@ use Rattle.month_state.specs.declared.State.{State}
 use Rattle.month_state.specs.declared.Entries.{Entries}
 use Rattle.month_state.specs.State.{kept_limit, kept_aside, one_more_kept}
 use Rattle.month_state.proofs.Kept.{one_more}
-use Rattle.month_refusals.specs.Asked.{Check}
-use Rattle.month_refusals.specs.Asked.{first_of}
+use Rattle.month_refusals.specs.Asked.{Check, first_of}
 use Rattle.month_refusals.specs.Refusals.{month_check}
 use Rattle.month_refusals.proofs.Accepted.{sound-state}
 use Rattle.month_state.specs.declared.Outcome.{Outcome}
-use Rattle.month_call.specs.Month.{outcome_of, month_call}
+use Rattle.month_call.specs.Month.{outcome_of, month_call, Answer}
 use Rattle.month_call.proofs.Laws.{accepted, accepted_runs}
 use Rattle.month_demand3.specs.Calls.{Call, state_after, is_done, accepts, accepted_calls}
-use Rattle.kept_months.specs.Kept.{keep_if, take_asked}
+use Rattle.kept_months.specs.Kept.{keep_if, take_asked, TakeAnswer}
 use Rattle.kept_months.proofs.Laws.{taken}
 use Rattle.kept_demand3.specs.Acts.{Act, call, back, Field, after_call, after_back, after_act, run_acts, backs, calls}
 use Rattle.kept_demand3.specs.Demand.{Lent}
 use Rattle.kept_demand3.specs.TakingBack.{back_from, TakingBack}
 use Rattle.kept_demand3.proofs.Aside.{outcome_aside, same_outcome}
 use Rattle.kept_demand3.proofs.Remains.{alone, Holds, holds-none, holds_moved, holds_taken}
-use Rattle.month_call.specs.Month.{Answer}
-use Rattle.kept_months.specs.Kept.{TakeAnswer}
 
 -- ---- calls that are all accepted
 

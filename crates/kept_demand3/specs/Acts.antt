@@ -1,7 +1,8 @@
 -- "Demand 3's list, begun with none kept and with months taken back in it" (change 2026-02 of
 -- document 02): single month calls and takings-back in any order, each given the field that the one
 -- before it left, after a refusal too.
-use Rattle.std.specs.Prelude.{Ok, Err, Bool, true, false, cond, List, [], ◌∷◌, reverse, ℕ, zero, suc, drop}
+use Rattle.std.specs.Prelude.{Ok, Err, Bool, true, false, cond, List, [], ◌∷◌, reverse, ℕ, zero}
+use Rattle.std.specs.Prelude.{suc, drop}
 use Rattle.month_state.specs.declared.Soil.{Soil}
 use Rattle.month_state.specs.declared.State.{State}
 use Rattle.month_state.specs.State.{new_state}

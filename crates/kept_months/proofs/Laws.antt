@@ -15,15 +15,14 @@ use Rattle.month_state.specs.declared.State.{State}
 use Rattle.month_state.specs.State.{kept_limit}
 use Rattle.month_layouts.specs.Layouts.{kept_width, memory_width, state_from, kept_numbers}
 use Rattle.month_layouts.proofs.Layouts.{part_put, part_read, kept_of_length}
-use Rattle.month_refusals.specs.Asked.{Check}
+use Rattle.month_refusals.specs.Asked.{Check, Asked, first_of, Finds, checking_order, part_of, found, at, told, number_and_place, Exactly}
+use Rattle.month_refusals.specs.Asked.{answer_found, answer_told}
 use Rattle.month_refusals.specs.declared.Refusal.{Refusal}
-use Rattle.month_refusals.specs.Asked.{Asked, first_of, Finds, checking_order, part_of, found, at, told, number_and_place, Exactly}
 use Rattle.month_refusals.proofs.First.{passes-one, found_at, found-at, exactly}
 use Rattle.kept_months.specs.Kept.{place_of, keep, latest, take_asked, take_back}
-use Rattle.month_refusals.specs.Asked.{answer_found, answer_told}
 
--- The remainder may be taken before 23 is added.
-place-before : (months : ℕ) → (months % kept_limit + 23) % kept_limit ≡ place_of (months + 23)
+-- The remainder may be taken before the sum.
+place-before : (months : ℕ) → (months % kept_limit + (kept_limit - 1)) % kept_limit ≡ place_of (months + (kept_limit - 1))
 place-before months = omega arith
 
 -- A state kept leaves the memory's length.
@@ -49,11 +48,11 @@ module _ (s : State) (memory : List ℕ) (all : length memory ≡ memory_width) 
 
   -- .. and the latest is read from the part that begins at its.
   pub latest_in_part :
-      {before : State} → before ≡ state_from (part_at memory ((s.months % kept_limit + 23) % kept_limit)) 0 (s.kept - 1)
+      {before : State} → before ≡ state_from (part_at memory ((s.months % kept_limit + (kept_limit - 1)) % kept_limit)) 0 (s.kept - 1)
       → before ≡ latest s memory
   unfolding latest
   latest_in_part is =
-      let place = (s.months % kept_limit + 23) % kept_limit in
+      let place = (s.months % kept_limit + (kept_limit - 1)) % kept_limit in
       is
       ∙ ap (λ (n : ℕ). state_from (take (n - kept_width * place) (drop (kept_width * place) memory)) 0 (s.kept - 1)) (sym all)
       ∙ part_read memory (kept_width * place) (s.kept - 1)

@@ -1,5 +1,5 @@
--- Laws of the places: a kept state is read back from the place of its months, those of the 23 months before it stay, and the latest is
--- read from the place of one month less.
+-- Laws of the places: a kept state is read back from the place of its months, those of the months before it stay, but for the one whose
+-- place it takes, and the latest is read from the place of one month less.
 -- Assumes nothing.
 use mathlib.Core.Path.{◌≡◌, ◌∙◌, ap}
 use mathlib.Core.List.{List}
@@ -7,7 +7,7 @@ use Prim.Native.Nat.{ℕ, ◌+◌, ◌-◌, ◌*◌, ◌≤◌, ◌<◌}
 use native.Mathlib.Omega.{arith}
 use lib.ListN.{length}
 use Rattle.month_state.specs.declared.State.{State}
-use Rattle.month_state.specs.State.{kept_aside, with_kept}
+use Rattle.month_state.specs.State.{kept_limit, kept_aside, with_kept}
 use Rattle.month_layouts.specs.Layouts.{kept_width, memory_width, state_from}
 use Rattle.month_layouts.proofs.Layouts.{Four, put_back, put_apart}
 use Rattle.kept_months.specs.Kept.{place_of, keep, latest}
@@ -26,12 +26,12 @@ pub keep_there : (s : State) (memory : List ℕ) → Four s → length memory �
 unfolding keep
 keep_there s memory four long = put_back memory (kept_width * place_of s.months) s 0 four (omega (arith, room s.months))
 
--- Two places at most 23 months from one another have no number in common.
-apart : (months gap c d : ℕ) → gap < 23 → c < kept_width → d < kept_width
+-- Two places fewer months from one another than there are places have no number in common.
+apart : (months gap c d : ℕ) → gap < kept_limit - 1 → c < kept_width → d < kept_width
     → kept_width * place_of months + c ≡ kept_width * place_of (months + 1 + gap) + d → ⊥
 apart months gap c d h hc hd e = omega arith
 
-pub keep_others : (s : State) (memory : List ℕ) (months gap : ℕ) → s.months ≡ months + 1 + gap → gap < 23
+pub keep_others : (s : State) (memory : List ℕ) (months gap : ℕ) → s.months ≡ months + 1 + gap → gap < kept_limit - 1
     → read_at (keep s memory) months ≡ read_at memory months
 unfolding keep
 keep_others s memory months gap is h =
@@ -40,7 +40,7 @@ keep_others s memory months gap is h =
 
 -- ---- taking back
 
-place_again : (months : ℕ) → place_of (months + 1 + 23) ≡ place_of months
+place_again : (months : ℕ) → place_of (months + 1 + (kept_limit - 1)) ≡ place_of months
 place_again months = omega arith
 
 pub latest_read : (s : State) (memory : List ℕ) (months : ℕ) → s.months ≡ months + 1
@@ -48,4 +48,4 @@ pub latest_read : (s : State) (memory : List ℕ) (months : ℕ) → s.months �
 unfolding latest state_from
 latest_read s memory months is =
     ap (λ (place : ℕ). state_from memory (kept_width * place) (s.kept - 1))
-    (ap (λ (m : ℕ). place_of (m + 23)) is ∙ place_again months)
+    (ap (λ (m : ℕ). place_of (m + (kept_limit - 1))) is ∙ place_again months)

@@ -34,10 +34,11 @@ keep_if (Err refusal) s memory = memory
 
 -- ---- taking back
 
--- The state before the latest month: the place before that of the months done, going round (23
--- further), with one kept less. Its numbers are not checked.
+-- The state before the latest month: the place before that of the months done, going round (all
+-- places but one further), with one kept less. Its numbers are not checked.
 unfoldable pub latest : State → List ℕ → State
-latest s memory = state_from memory (kept_width * place_of (s.months + 23)) (s.kept - 1)
+latest s memory =
+    state_from memory (kept_width * place_of (s.months + (kept_limit - 1))) (s.kept - 1)
 
 -- 20 "when no kept month is left, before any other check", then 10 for "a kept count above 24".
 -- "Taking back checks nothing else."

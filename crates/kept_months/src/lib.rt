@@ -1,10 +1,10 @@
 // Taking a month back, change 2026-02 of document 02: a month that keeps the state before it in
-// lent memory, and the taking back of the latest one.
+// lent memory, and the taking back of the latest one. The memory is an array of its length, numbers
+// one after another as C lends them; it stays apart from the state, which is handed over by value.
 #![tactic(auto)]
 
 ghost use Rattle.std.specs.Prelude.{◌≡◌, ◌<◌};
-ghost use Rattle.month_refusals.specs.Asked.{at, told, Exactly, Finds};
-ghost use Rattle.month_refusals.specs.Asked.{answer_found, answer_told};
+ghost use Rattle.month_refusals.specs.Asked.{at, told, Exactly, Finds, answer_found, answer_told};
 ghost use Rattle.month_refusals.specs.Refusals.{month_asked};
 ghost use Rattle.month_call.specs.Month.{month_call};
 ghost use Rattle.kept_months.specs.Kept.{keep, keep_if, latest, take_asked, take_back};
@@ -64,7 +64,8 @@ fn latest(s: State, memory: &[u64; MEMORY_WIDTH]) -> State
     requires { 0 < s.kept }
     ensures { result ≡ latest s memory.now }
 {
-    let place = ((s.months % State::KEPT_LIMIT + 23) % State::KEPT_LIMIT) as usize;
+    let further = s.months % State::KEPT_LIMIT + (State::KEPT_LIMIT - 1);
+    let place = (further % State::KEPT_LIMIT) as usize;
     kept_of(&memory[KEPT_WIDTH * place..], s.kept - 1)
 }
 

@@ -1,13 +1,11 @@
 -- What rothc_take_back returns and leaves in lent memory: a field, which is the current state and
 -- after it the memory of the kept ones.
-use Rattle.std.specs.Prelude.{Ok, Err}
-use Rattle.std.specs.Prelude.{cond, List, ℕ}
+use Rattle.std.specs.Prelude.{Ok, Err, cond, List, ℕ}
 use Rattle.month_state.specs.declared.State.{State}
 use Rattle.month_layouts.specs.Layouts.{field_width, state_of, memory_of, field_numbers}
 use Rattle.month_refusals.specs.Asked.{refusal_number}
-use Rattle.kept_months.specs.Kept.{TakeAnswer}
+use Rattle.kept_months.specs.Kept.{TakeAnswer, take_back}
 use Rattle.month_state.specs.declared.Outcome.{Outcome}
-use Rattle.kept_months.specs.Kept.{take_back}
 use Rattle.library_month.specs.Calls.{shape, has}
 
 pub record BackLeft : Type 0 where

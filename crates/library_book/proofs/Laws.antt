@@ -7,14 +7,11 @@ use native.Mathlib.Omega.{arith}
 use borrow.Author.Tests.{lt-ltb, le-ltb}
 use lib.ListN.{length, take, drop}
 use lib.Seq.{take_at}
-use Rattle.month_refusals.specs.declared.NumberAndPlace.{NumberAndPlace}
 use Rattle.month_refusals.specs.declared.Refusal.TheVariants.{Room}
-use Rattle.month_refusals.specs.Asked.{refusal_number}
+use Rattle.month_refusals.specs.Asked.{refusal_number, placed_told}
 use Rattle.book_digits.specs.Digits.{overwritten}
 use Rattle.book_digits.proofs.Writing.{length-overwritten, overwritten_is}
-use Rattle.book_run.specs.Book.{BookAnswer}
-use Rattle.book_run.specs.Book.{book_of}
-use Rattle.month_refusals.specs.Asked.{placed_told}
+use Rattle.book_run.specs.Book.{BookAnswer, book_of}
 use Rattle.book_report.specs.Report.{no_rows, output_of, report_of}
 use Rattle.library_book.specs.Calls.{rothc_book}
 
@@ -38,17 +35,16 @@ module _
     unfolding report_of
     whole-report = rw (sym ran)
 
-    pub book_short : {number : ℕ} → length out < n → number ≡ refusal_number Room
-        → record { number = number; out = out; size = n } ≡ rothc_book book out
+    pub book_short : length out < n → record { number = refusal_number Room; out = out; size = n } ≡ rothc_book book out
     unfolding rothc_book
-    book_short short is =
+    book_short short =
         let same : n ≡ length (report_of book) = size ∙ ap length whole-report in
         let shorter : length out < length (report_of book) = omega arith in
-        rw (lt-ltb (length out) (length (report_of book)) shorter, same, is)
+        rw (lt-ltb (length out) (length (report_of book)) shorter, same)
 
     pub book_written :
-        {left text : List ℕ} {telling : NumberAndPlace} → n ≤ length out → left ≡ overwritten out 0 text → text ≡ output_of answer rows
-        → telling ≡ placed_told answer → record { number = telling.number; out = left; size = n } ≡ rothc_book book out
+        {left text : List ℕ} {number : ℕ} → n ≤ length out → left ≡ overwritten out 0 text → text ≡ output_of answer rows
+        → number ≡ (placed_told answer).number → record { number = number; out = left; size = n } ≡ rothc_book book out
     unfolding rothc_book
     book_written room wrote is told =
         let same : n ≡ length (report_of book) = size ∙ ap length whole-report in

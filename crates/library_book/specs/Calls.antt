@@ -1,10 +1,9 @@
 -- What rothc_book returns and leaves in lent memory.
 use Rattle.std.specs.Prelude.{cond, List, ℕ, ltb, length}
 use Rattle.month_refusals.specs.declared.Refusal.TheVariants.{Room}
-use Rattle.month_refusals.specs.Asked.{refusal_number}
+use Rattle.month_refusals.specs.Asked.{refusal_number, placed_told}
 use Rattle.book_digits.specs.Digits.{overwritten}
 use Rattle.book_run.specs.Book.{book_of}
-use Rattle.month_refusals.specs.Asked.{placed_told}
 use Rattle.book_report.specs.Report.{no_rows, report_of}
 
 pub record BookLeft : Type 0 where

@@ -1,5 +1,7 @@
 // The functions of include/rothc.h, for Rust and for the tests: each is its body's, in a crate
-// beside this one, where its wrong programs are tried. library_calls_c has them for C and Python.
+// beside this one, where its wrong programs are tried, and its answer is turned into C's number
+// here. library_calls_c has them for C and Python. Pools and what is returned are numbers, since an
+// enum has no form in C.
 #![tactic(auto)]
 
 ghost use Rattle.std.specs.Prelude.{true, ◌≡◌, ◌≤◌};
@@ -10,6 +12,8 @@ ghost use Rattle.library_list.specs.Calls.{rothc_list, rothc_spin_up};
 ghost use Rattle.library_radiocarbon.specs.Calls.{rothc_radiocarbon, rothc_age_survival};
 ghost use Rattle.library_book.specs.Calls.{rothc_book};
 ghost use Rattle.library_table.specs.Calls.{rothc_table};
+
+use library_month::call_number;
 
 pub fn rothc_survival(n: u64, pool: u64) -> u64
     ensures { result ≡ rothc_survival n pool }
@@ -29,21 +33,21 @@ pub fn rothc_start(soil: &[u64], state: &mut [u64]) -> u64
     ensures { record { number = result; state = state.new }
         ≡ rothc_start soil.now state.old }
 {
-    library_month::start(soil, state)
+    call_number(library_month::start(soil, state))
 }
 
 pub fn rothc_month(state: &mut [u64], number: u64, entries: &[i64], row: &mut [u64]) -> u64
     ensures { record { number = result; state = state.new; row = row.new }
         ≡ rothc_month state.old number entries.now row.old }
 {
-    library_month::month(state, number, entries, row)
+    call_number(library_month::month(state, number, entries, row))
 }
 
 pub fn rothc_take_back(state: &mut [u64]) -> u64
     ensures { record { number = result; state = state.new }
         ≡ rothc_take_back state.old }
 {
-    library_back::take_back(state)
+    call_number(library_back::take_back(state))
 }
 
 pub fn rothc_list(
@@ -62,7 +66,7 @@ pub fn rothc_list(
         ≡ rothc_list state.old weather.now land.now
         rows.old place.old }
 {
-    library_list::list(state, weather, land, rows, place)
+    call_number(library_list::list(state, weather, land, rows, place))
 }
 
 pub fn rothc_spin_up(
@@ -76,14 +80,14 @@ pub fn rothc_spin_up(
         ≡ rothc_spin_up state.old weather.now land.now years
         res.old }
 {
-    library_list::spin_up(state, weather, land, years, res)
+    call_number(library_list::spin_up(state, weather, land, years, res))
 }
 
 pub fn rothc_radiocarbon(state: &[u64], pool: u64, report: &mut [i64]) -> u64
     ensures { record { number = result; report = report.new }
         ≡ rothc_radiocarbon state.now pool report.old }
 {
-    library_radiocarbon::radiocarbon(state, pool, report)
+    call_number(library_radiocarbon::radiocarbon(state, pool, report))
 }
 
 pub fn rothc_age_survival(years: u64) -> u64
@@ -96,7 +100,7 @@ pub fn rothc_book(book: &[u8], out: &mut [u8], length: &mut u64) -> u64
     ensures { record { number = result; out = out.new; size = length.new }
         ≡ rothc_book book.now out.old }
 {
-    library_book::book(book, out, length)
+    call_number(library_book::book(book, out, length))
 }
 
 pub fn rothc_table(table: &[u8], weather: &mut [i64], rows: &mut u64, place: &mut u64) -> u64
@@ -108,5 +112,5 @@ pub fn rothc_table(table: &[u8], weather: &mut [i64], rows: &mut u64, place: &mu
     }
         ≡ rothc_table table.now weather.old }
 {
-    library_table::table(table, weather, rows, place)
+    call_number(library_table::table(table, weather, rows, place))
 }

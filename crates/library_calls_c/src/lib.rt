@@ -1,6 +1,6 @@
 // The functions of include/rothc.h, for C and Python: each is the function of its name in
 // library_calls, with the same promise. An export can only be of its own crate, and a crate that
-// other crates use is no library for C.
+// other crates use is no library for C. Pools and what is returned are numbers, as there.
 #![tactic(auto)]
 
 ghost use Rattle.std.specs.Prelude.{true, ◌≡◌, ◌≤◌};

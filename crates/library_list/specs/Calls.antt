@@ -1,17 +1,15 @@
 -- What rothc_list and rothc_spin_up return and leave in lent memory. Memory that a call is lent to
 -- read stays as it was. A state is lent as a field: the current one, and after it the memory of the
 -- kept ones.
-use Rattle.std.specs.Prelude.{Ok, Err}
-use Rattle.std.specs.Prelude.{cond, ◌&&◌, List, [], ◌∷◌, ℕ, ℤ}
+use Rattle.std.specs.Prelude.{Ok, Err, cond, ◌&&◌, List, [], ◌∷◌, ℕ, ℤ}
 use Rattle.month_state.specs.declared.State.{State}
 use Rattle.month_layouts.specs.Layouts.{field_width, state_of, memory_of, field_numbers}
 use Rattle.list_rows.specs.Rows.{land_rows}
 use Rattle.list_run.specs.Run.{Left, rows_written, kept_months, run}
 use Rattle.month_refusals.specs.Asked.{placed_told}
-use Rattle.spin_up.specs.SpinUp.{SpinAnswer}
+use Rattle.spin_up.specs.SpinUp.{SpinAnswer, spin_up}
 use Rattle.spin_up.specs.declared.Years.TheVariants.{Settled, Unsettled}
 use Rattle.month_state.specs.declared.Outcome.{Outcome}
-use Rattle.spin_up.specs.SpinUp.{spin_up}
 use Rattle.library_month.specs.Calls.{shape, has}
 
 -- ---- rothc_list

@@ -1,27 +1,31 @@
--- What rothc_start and rothc_month return and leave in lent memory. Memory that a call is lent to
--- read stays as it was. A state is lent as a field: the current one, and after it the memory of the
--- kept ones.
-use Rattle.std.specs.Prelude.{Ok, Err}
-use Rattle.std.specs.Prelude.{Bool, cond, ◌&&◌, List, ℕ, eqb, ℤ, length}
+-- The number of a call's answer, and what rothc_start and rothc_month return and leave in lent
+-- memory. Memory that a call is lent to read stays as it was. A state is lent as a field: the
+-- current one, and after it the memory of the kept ones.
+use Rattle.std.specs.Prelude.{Result, Ok, Err, Bool, cond, ◌&&◌, List, ℕ, eqb, ℤ, length}
 use Rattle.month_state.specs.declared.Soil.{Soil}
 use Rattle.month_state.specs.declared.State.{State}
 use Rattle.month_state.specs.State.{new_state}
 use Rattle.month_layouts.specs.Layouts.{soil_width, field_width, soil_of, state_of, memory_of}
-use Rattle.list_rows.specs.Rows.{entries_width, row_width, entries_of}
 use Rattle.month_layouts.specs.Layouts.{field_numbers}
-use Rattle.list_rows.specs.Rows.{row_numbers}
-use Rattle.month_refusals.specs.Asked.{Check}
-use Rattle.month_refusals.specs.Asked.{refusal_number}
+use Rattle.list_rows.specs.Rows.{entries_width, row_width, entries_of, row_numbers}
+use Rattle.month_refusals.specs.Asked.{Check, refusal_number}
 use Rattle.month_refusals.specs.Refusals.{soil_check}
-use Rattle.month_call.specs.Month.{Answer}
+use Rattle.month_call.specs.Month.{Answer, month_call}
 use Rattle.month_state.specs.declared.Outcome.{Outcome}
-use Rattle.month_call.specs.Month.{month_call}
 use Rattle.kept_months.specs.Kept.{keep_if}
+use Rattle.library_month.specs.declared.CallRefusal.{CallRefusal}
+use Rattle.library_month.specs.declared.CallRefusal.TheVariants.{Shape, Refused}
 
 -- The number for lent memory of a fixed layout that has another length. It is none of the
 -- papers'. Nothing is written then.
 abbrev pub shape : ℕ
 shape = 100
+
+-- The number of an answer: 0 where the call is done, 100, or that of the papers' refusal.
+abbrev pub call_number : Result Unit CallRefusal → ℕ
+call_number (Ok _) = 0
+call_number (Err Shape) = shape
+call_number (Err (Refused refusal)) = refusal_number refusal
 
 -- A list has so many numbers.
 abbrev pub has : {A : Type 0} → List A → ℕ → Bool

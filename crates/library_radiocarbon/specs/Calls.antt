@@ -1,15 +1,14 @@
 -- What rothc_radiocarbon and rothc_age_survival return and leave in lent memory. A state is lent as
 -- a field: the current one, and after it the memory of the kept ones. It is read and stays.
-use Rattle.std.specs.Prelude.{Ok, Err}
-use Rattle.std.specs.Prelude.{cond, ◌&&◌, List, [], ◌∷◌, ℕ, leb, eqb, ℤ, pos}
+use Rattle.std.specs.Prelude.{Option, Some, None, Ok, Err, cond, ◌&&◌, List, [], ◌∷◌, ℕ, leb, eqb}
+use Rattle.std.specs.Prelude.{ℤ, pos}
 use Rattle.month_layouts.specs.Layouts.{field_width, state_of}
 use Rattle.step_survival.specs.Ages.{age_limit, age_survival}
 use Rattle.radiocarbon_age.specs.declared.Age.{Age}
 use Rattle.radiocarbon_age.specs.declared.Age.TheVariants.{Years, Older, Newer}
 use Rattle.radiocarbon_report.specs.declared.Subject.{Subject}
 use Rattle.radiocarbon_report.specs.declared.Subject.TheVariants.{Dpm, Rpm, Bio, Hum, Iom, AllFive}
-use Rattle.radiocarbon_report.specs.Report.{ReportAnswer}
-use Rattle.radiocarbon_report.specs.Report.{report}
+use Rattle.radiocarbon_report.specs.Report.{ReportAnswer, report}
 use Rattle.month_refusals.specs.Asked.{answer_told}
 use Rattle.library_month.specs.Calls.{shape, has}
 use Rattle.library_survival.specs.Calls.{no_survival}
@@ -20,15 +19,16 @@ use Rattle.library_survival.specs.Calls.{no_survival}
 abbrev pub report_width : ℕ
 report_width = 3
 
--- What is asked for: 0 DPM, 1 RPM, 2 BIO, 3 HUM, 4 IOM, 5 all five. (`cond` gives the first where
--- the test is true.)
-abbrev pub subject_of : ℕ → Subject
+-- What is asked for: 0 DPM, 1 RPM, 2 BIO, 3 HUM, 4 IOM, 5 all five, and nothing by any other
+-- number. (`cond` gives the first where the test is true.)
+abbrev pub subject_of : ℕ → Option Subject
 subject_of pool =
-    cond (eqb pool 0) Dpm
-    (cond (eqb pool 1) Rpm
-    (cond (eqb pool 2) Bio
-    (cond (eqb pool 3) Hum
-    (cond (eqb pool 4) Iom AllFive))))
+    cond (eqb pool 0) (Some Dpm)
+    (cond (eqb pool 1) (Some Rpm)
+    (cond (eqb pool 2) (Some Bio)
+    (cond (eqb pool 3) (Some Hum)
+    (cond (eqb pool 4) (Some Iom)
+    (cond (eqb pool 5) (Some AllFive) None)))))
 
 pub record ReportLeft : Type 0 where
   pub number : ℕ
@@ -50,11 +50,18 @@ abbrev pub after_report : ReportAnswer → List ℤ → ReportLeft
 after_report answer lent =
     record { number = (answer_told answer).number; report = of_report answer lent }
 
+-- A wrong length, or a number that asks for nothing, is refused by 100.
+abbrev pub wrong_shape : List ℤ → ReportLeft
+wrong_shape lent = record { number = shape; report = lent }
+
+abbrev pub reported : List ℕ → Option Subject → List ℤ → ReportLeft
+reported state (Some subject) lent = after_report (report (state_of state) subject) lent
+reported state None lent = wrong_shape lent
+
 unfoldable pub rothc_radiocarbon : List ℕ → ℕ → List ℤ → ReportLeft
 rothc_radiocarbon state pool lent =
-    cond (has state field_width && (has lent report_width && leb pool 5))
-    (after_report (report (state_of state) (subject_of pool)) lent)
-    (record { number = shape; report = lent })
+    cond (has state field_width && has lent report_width)
+    (reported state (subject_of pool) lent) (wrong_shape lent)
 
 -- ---- rothc_age_survival
 

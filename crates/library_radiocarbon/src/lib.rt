@@ -5,10 +5,11 @@
 ghost use Rattle.std.specs.Prelude.{◌≡◌, ℕ, ◌≤◌};
 ghost use Rattle.step_survival.specs.Ages.{age_limit};
 ghost use Rattle.radiocarbon_age.specs.declared.Age.TheVariants.{Years};
+ghost use Rattle.library_month.specs.Calls.{call_number};
 ghost use Rattle.library_radiocarbon.specs.Calls.{subject_of, report_numbers};
 ghost use Rattle.library_radiocarbon.specs.Calls.{rothc_radiocarbon, rothc_age_survival};
 
-use library_month::SHAPE;
+use library_month::{CallAnswer, CallRefusal};
 use library_survival::NO_SURVIVAL;
 use month_layouts::{FIELD_WIDTH, state_of};
 use radiocarbon_age::{AGE_LIMIT, Age};
@@ -18,21 +19,24 @@ use step_survival::age_survival;
 // How many numbers a report has.
 const REPORT_WIDTH: usize = 3;
 
-// What a number asks for. The numbers are those of the C interface, so there is no `TryFrom`.
-fn subject_of(pool: u64) -> Subject
+// What C asks for by a number (an enum has no form there); another number asks for nothing. The
+// numbers are the interface's and not the report's, so there is no `TryFrom`.
+fn subject_of(pool: u64) -> Option<Subject>
     ensures { result ≡ subject_of pool }
 {
     match pool {
-        0 => Subject::Dpm,
-        1 => Subject::Rpm,
-        2 => Subject::Bio,
-        3 => Subject::Hum,
-        4 => Subject::Iom,
-        _ => Subject::AllFive,
+        0 => Some(Subject::Dpm),
+        1 => Some(Subject::Rpm),
+        2 => Some(Subject::Bio),
+        3 => Some(Subject::Hum),
+        4 => Some(Subject::Iom),
+        5 => Some(Subject::AllFive),
+        _ => None,
     }
 }
 
-// Delta, whether there is an age, and the age, as C takes them: three numbers.
+// Delta, whether there is an age, and the age, as C takes them: three numbers, in an array of that
+// length, since the library has no heap.
 fn report_numbers(given: Radiocarbon) -> [i64; REPORT_WIDTH]
     requires { (y : ℕ) → given.age ≡ Years y → y ≤ age_limit }
     ensures { result ≡ report_numbers given.delta given.age }
@@ -44,23 +48,20 @@ fn report_numbers(given: Radiocarbon) -> [i64; REPORT_WIDTH]
     }
 }
 
-// The report on a pool of a field's state, or on all five. A pool that is none of the six that can
-// be asked is a fault of the layout, not one of the papers' refusals.
+// The report on a pool of a field's state, or on all five. A number that asks for nothing is a
+// fault of the layout, not one of the papers' refusals.
 #[tactic(auto, unfolding(crate::specs::Calls::rothc_radiocarbon))]
-pub fn radiocarbon(state: &[u64], pool: u64, numbers: &mut [i64]) -> u64
-    ensures { record { number = result; report = numbers.new }
+pub fn radiocarbon(state: &[u64], pool: u64, numbers: &mut [i64]) -> CallAnswer
+    ensures { record { number = call_number result; report = numbers.new }
         ≡ rothc_radiocarbon state.now pool numbers.old }
 {
-    if state.len() != FIELD_WIDTH || numbers.len() != REPORT_WIDTH || 5 < pool {
-        return SHAPE;
+    if state.len() != FIELD_WIDTH || numbers.len() != REPORT_WIDTH {
+        return Err(CallRefusal::Shape);
     }
-    match report(state_of(state), subject_of(pool)) {
-        Ok(given) => {
-            numbers.copy_from_slice(&report_numbers(given));
-            0
-        }
-        Err(refusal) => refusal.number(),
-    }
+    let subject = subject_of(pool).ok_or(CallRefusal::Shape)?;
+    let given = report(state_of(state), subject)?;
+    numbers.copy_from_slice(&report_numbers(given));
+    Ok(())
 }
 
 // The survival number of an age in years.

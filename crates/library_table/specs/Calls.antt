@@ -1,9 +1,7 @@
 -- What rothc_table returns and leaves in lent memory. Memory that a call is lent to read stays as
 -- it was.
-use Rattle.std.specs.Prelude.{Ok, Err}
-use Rattle.std.specs.Prelude.{List, ℕ, ℤ}
-use Rattle.table_import.specs.Table.{TableAnswer}
-use Rattle.table_import.specs.Table.{TableLeft, table_of}
+use Rattle.std.specs.Prelude.{Ok, Err, List, ℕ, ℤ}
+use Rattle.table_import.specs.Table.{TableAnswer, TableLeft, table_of}
 use Rattle.month_refusals.specs.Asked.{placed_told}
 
 pub record TableCall : Type 0 where

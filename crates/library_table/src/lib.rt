@@ -2,15 +2,18 @@
 #![tactic(auto)]
 
 ghost use Rattle.std.specs.Prelude.{◌≡◌};
+ghost use Rattle.library_month.specs.Calls.{call_number};
 ghost use Rattle.library_table.specs.Calls.{rothc_table};
 
+use library_month::CallAnswer;
 use month_refusals::placed_told;
 
 // A table's rows at the start of the weather, how many, and the place of a refusal. C takes these
 // two through pointers.
-pub fn table(table: &[u8], weather: &mut [i64], rows: &mut u64, place: &mut u64) -> u64
+#[tactic(auto, using(crate::proofs::Laws::rows_are), unfolding(crate::specs::Calls::rothc_table))]
+pub fn table(table: &[u8], weather: &mut [i64], rows: &mut u64, place: &mut u64) -> CallAnswer
     ensures { record {
-      number = result;
+      number = call_number result;
       weather = weather.new;
       rows = rows.new;
       place = place.new;
@@ -18,8 +21,8 @@ pub fn table(table: &[u8], weather: &mut [i64], rows: &mut u64, place: &mut u64)
         ≡ rothc_table table.now weather.old }
 {
     let answer = table_import::table(table, weather);
-    let told = placed_told(answer);
     *rows = answer.unwrap_or(0);
-    *place = told.place;
-    told.number
+    *place = placed_told(answer).place;
+    answer?;
+    Ok(())
 }

@@ -1,9 +1,9 @@
--- Laws of a list's rows: numbers that 3 lets pass are rows of their width, 1 to 1,200 of them, and a row lies within them.
+-- Laws of a list's rows: numbers that 3 lets pass are rows of their width, 1 to 1,200 of them.
 -- Assumes nothing.
 use mathlib.Core.Path.{◌≡◌}
 use mathlib.Core.Bool.{false, not, ◌||◌}
-use Prim.Native.Nat.{ℕ, ◌+◌, ◌*◌, ◌/◌, ◌%◌, ◌≤◌, ◌<◌}
-use native.Mathlib.Nat.{mod-lt, div-add-mod', div-mul-le_self, le-div_iff_mul-le, mul-le-mul_left}
+use Prim.Native.Nat.{ℕ, ◌*◌, ◌/◌, ◌%◌, ◌≤◌, ◌<◌}
+use native.Mathlib.Nat.{div-add-mod', mul-le-mul_left}
 use native.Mathlib.Omega.{arith}
 use borrow.Author.Tests.{ltb-false, eqb-true, not-false}
 use lib.Dec.{ltb, eqb}
@@ -22,9 +22,3 @@ some_rows width count some h =
     let no-remainder : count % width ≡ 0 = eqb-true (count % width) 0 (not-false (eqb (count % width) 0) no-rest.0) in
     let all : count ≡ width * (count / width) = omega (arith, div-add-mod' count width) in
     (omega (arith, mul-le-mul_left width least), ltb-false 1200 (count / width) range.1, all)
-
--- A row, taken again from the first, lies within the numbers.
-pub row_inside : (width n j : ℕ) → 0 < width → width ≤ n → width * (j % (n / width)) + width ≤ n
-row_inside width n j some h =
-    let rows : 0 < n / width = (le-div_iff_mul-le {k = width} {x = 1} {y = n} some).1 (omega arith) in
-    omega (arith, mul-le-mul_left width (mod-lt j {m = n / width} rows), div-mul-le_self n width)

@@ -41,7 +41,9 @@ weather-same w v rest rest' e =
     (sym (weather-back [] rest w) ∙ ap (λ (l : List ℤ). weather_from l 0) e ∙ weather-back [] rest' v, ap (drop weather_width) e)
 
 -- A weather row is what its four numbers say, ..
-pub weather_there : (l : List ℤ) (place : ℕ) {r : List ℤ} → place + weather_width ≤ length l → r ≡ take weather_width (drop place l) → weather_from r 0 ≡ weather_from l place
+pub weather_there :
+    (l : List ℤ) (place : ℕ) {r : List ℤ} → place + weather_width ≤ length l → r ≡ take weather_width (drop place l)
+    → weather_from r 0 ≡ weather_from l place
 unfolding weather_from
 weather_there l place room h = rw (four_there (pos 0) l place room h)
 
@@ -81,7 +83,9 @@ land-back before rest l =
     }
 
 -- A land row is what its four numbers say, ..
-pub land_there : (l : List ℤ) (place : ℕ) {r : List ℤ} → place + land_width ≤ length l → r ≡ take land_width (drop place l) → land_from r 0 ≡ land_from l place
+pub land_there :
+    (l : List ℤ) (place : ℕ) {r : List ℤ} → place + land_width ≤ length l → r ≡ take land_width (drop place l)
+    → land_from r 0 ≡ land_from l place
 unfolding land_from
 land_there l place room h = rw (four_there (pos 0) l place room h)
 

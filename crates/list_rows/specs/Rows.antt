@@ -1,7 +1,8 @@
 -- The rows of a list of months, step 7 of document 01: how weather, land and months' rows lie in
 -- lent memory, how many there are, and the entries of a month. Only the definitions of this file
 -- know how many numbers a row has and where each lies.
-use Rattle.std.specs.Prelude.{Bool, not, ◌||◌, List, [], ◌∷◌, ℕ, ◌+◌, ◌*◌, ◌/◌, ◌%◌, ltb, eqb, ℤ, pos, length, get_or}
+use Rattle.std.specs.Prelude.{Bool, not, ◌||◌, List, [], ◌∷◌, ℕ, ◌+◌, ◌*◌, ◌/◌, ◌%◌, ltb, eqb, ℤ}
+use Rattle.std.specs.Prelude.{pos, length, get_or}
 use Rattle.std.proofs.lemmas.List.Edits.{sets}
 use Rattle.month_state.specs.declared.Weather.{Weather}
 use Rattle.month_state.specs.declared.Land.{Land}
@@ -49,7 +50,8 @@ land_from numbers place =
 
 -- A month's entries: a weather row, then a land row.
 unfoldable pub entries_of : List ℤ → Entries
-entries_of numbers = record { weather = weather_from numbers 0; land = land_from numbers weather_width }
+entries_of numbers =
+    record { weather = weather_from numbers 0; land = land_from numbers weather_width }
 
 -- The numbers of a weather row and of a land row, as they are read.
 unfoldable pub weather_numbers : Weather → List ℤ
@@ -72,14 +74,7 @@ row_numbers row =
     ∷ row.deficit.0
     ∷ []
 
--- ---- rows in lent memory, counted from 0: put from a place on (`sets`), and everything else stays
-
-unfoldable pub weather_written : List ℤ → ℕ → Weather → List ℤ
-weather_written numbers i w = sets numbers (weather_width * i) (weather_numbers w)
-
-unfoldable pub land_written : List ℤ → ℕ → Land → List ℤ
-land_written numbers i l = sets numbers (land_width * i) (land_numbers l)
-
+-- Row j, counted from 0, put in lent memory (`sets`); everything else stays.
 unfoldable pub row_written : List ℕ → ℕ → Row → List ℕ
 row_written out j row = sets out (row_width * j) (row_numbers row)
 

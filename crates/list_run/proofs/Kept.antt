@@ -11,9 +11,8 @@ use lib.ListN.{length}
 use Rattle.month_state.specs.declared.State.{State}
 use Rattle.month_refusals.specs.Refusals.{state_check}
 use Rattle.month_state.specs.declared.Row.{Row}
-use Rattle.month_call.specs.Month.{Answer}
+use Rattle.month_call.specs.Month.{Answer, month_call, list_month}
 use Rattle.month_state.specs.declared.Outcome.{Outcome}
-use Rattle.month_call.specs.Month.{month_call, list_month}
 use Rattle.month_call.proofs.Laws.{single, month-sound}
 use Rattle.kept_months.specs.Kept.{keep, keep_if}
 use Rattle.kept_demand3.specs.Acts.{run_acts, calls}

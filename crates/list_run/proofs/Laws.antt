@@ -14,13 +14,12 @@ use lib.IntN.{ℤ}
 use lib.ListN.{length}
 use Rattle.month_state.specs.declared.State.{State}
 use Rattle.month_state.specs.declared.Row.{Row}
-use Rattle.list_rows.specs.Rows.{weather_width, land_width, row_width, row_written}
-use Rattle.month_refusals.specs.Asked.{Check, ◌on◌}
+use Rattle.list_rows.specs.Rows.{weather_width, land_width, row_width, row_written, land_rows, rows_outside, entries_at}
+use Rattle.month_refusals.specs.Asked.{Check, ◌on◌, first_of, Finds}
 use Rattle.month_refusals.specs.declared.RefusedAt.{RefusedAt}
 use Rattle.kept_months.specs.Kept.{keep}
 use Rattle.month_refusals.specs.declared.Refusal.{Refusal}
 use Rattle.month_refusals.specs.declared.Refusal.TheVariants.{Rows, Room}
-use Rattle.month_refusals.specs.Asked.{first_of, Finds}
 use Rattle.month_refusals.specs.Refusals.{soil_asked, bounds_asked, state_check}
 use Rattle.month_refusals.proofs.First.{passes-one, passes-parts, asked-true, asked-false, none_left, then_asked, then_refused}
 use Rattle.std.proofs.lemmas.Bool.{or_parts, or_from, or_left, or_right}
@@ -28,7 +27,6 @@ use Rattle.month_refusals.proofs.Accepted.{parts-state}
 use Rattle.month_state.specs.declared.Outcome.{Outcome}
 use Rattle.month_state.proofs.Counting.{sub-suc}
 use Rattle.month_call.specs.Month.{Answer, list_month}
-use Rattle.list_rows.specs.Rows.{land_rows, rows_outside, entries_at}
 use Rattle.list_rows.proofs.Laws.{some_rows}
 use Rattle.list_run.specs.Run.{Left, refused_at, months, kept_months, rows_asked, room_asked, before_months, run}
 

@@ -1,7 +1,7 @@
 -- A list is its months: from a sound state its state and answer are those of single month calls in turn, with the numbers that come
 -- next. So demand 3 holds of a list from a new state.
 -- Assumes nothing.
-use Rattle.month_refusals.specs.Asked.{◌on◌}
+use Rattle.month_refusals.specs.Asked.{◌on◌, Check}
 use Rattle.std.specs.Prelude.{Ok, Err}
 use mathlib.Core.Path.{◌≡◌, refl, sym, ◌∙◌, ap}
 use mathlib.Core.Bool.{cond}
@@ -14,14 +14,12 @@ use lib.IntN.{ℤ}
 use Rattle.month_state.specs.declared.Soil.{Soil}
 use Rattle.month_state.specs.declared.State.{State}
 use Rattle.month_state.specs.declared.Entries.{Entries}
-use Rattle.month_refusals.specs.Asked.{Check}
 use Rattle.month_refusals.specs.declared.Refusal.{Refusal}
 use Rattle.month_refusals.specs.Refusals.{soil_check, state_check, entries_check}
 use Rattle.month_state.specs.State.{new_state}
 use Rattle.month_state.specs.declared.Row.{Row}
-use Rattle.month_call.specs.Month.{Answer}
+use Rattle.month_call.specs.Month.{Answer, moved_to, outcome_of, month_call, list_month}
 use Rattle.month_state.specs.declared.Outcome.{Outcome}
-use Rattle.month_call.specs.Month.{moved_to, outcome_of, month_call, list_month}
 use Rattle.month_demand3.specs.Calls.{is_done, run_calls, accepted_calls}
 use Rattle.month_demand3.proofs.Demand.{demand3}
 use Rattle.list_rows.specs.Rows.{land_rows, entries_at}

@@ -1,7 +1,7 @@
 -- Laws of a list's months and of its output: how a list ends, which output it touches, and that its outcome does not depend on the
 -- output that it is lent.
 -- Assumes nothing.
-use Rattle.month_refusals.specs.Asked.{◌on◌}
+use Rattle.month_refusals.specs.Asked.{◌on◌, Check, first_of}
 use Rattle.std.specs.Prelude.{Ok, Err}
 use mathlib.Core.Path.{◌≡◌, refl, sym, ◌∙◌, ap}
 use mathlib.Core.List.{List}
@@ -12,16 +12,12 @@ use lib.IntN.{ℤ}
 use lib.ListN.{length, get_or}
 use Rattle.month_state.specs.declared.State.{State}
 use Rattle.month_state.specs.declared.Row.{Row}
-use Rattle.list_rows.specs.Rows.{row_width, row_written}
+use Rattle.list_rows.specs.Rows.{row_width, row_written, land_rows, entries_at}
 use Rattle.list_rows.proofs.Layouts.{row_off, row-length}
-use Rattle.month_refusals.specs.Asked.{Check}
 use Rattle.month_refusals.specs.declared.Refusal.{Refusal}
-use Rattle.month_refusals.specs.Asked.{first_of}
 use Rattle.month_refusals.specs.Refusals.{state_check}
-use Rattle.month_call.specs.Month.{Answer}
-use Rattle.month_call.specs.Month.{list_month}
+use Rattle.month_call.specs.Month.{Answer, list_month}
 use Rattle.month_call.proofs.Laws.{month-sound}
-use Rattle.list_rows.specs.Rows.{land_rows, entries_at}
 use Rattle.list_run.specs.Run.{Left, refused_at, onward, months, rows_written, before_months, list_checked, run}
 use Rattle.list_run.proofs.Laws.{goes_on, stops, same_refused, Before, before}
 
@@ -171,7 +167,7 @@ module _ (s : State) (weather land : List ℤ) (out : List ℕ) where
       → run s weather land out ≡ refused_at refusal 0 s out
   outside-months refusal h = nothing-ran refusal begun h
 
-  -- Output past the last row written stays as it was, on every path, ..
+  -- Output past the last row written stays as it was, on every path.
   past : {end : Left} → Begun s weather land out the_months end → (i : ℕ)
       → row_width * rows_written end.outcome.answer (land_rows land) ≤ i → get_or end.output i 0 ≡ get_or out i 0
   past (refused refusal) i h = refl
@@ -180,11 +176,3 @@ module _ (s : State) (weather land : List ℤ) (out : List ℕ) where
   pub output_past : (i : ℕ) → row_width * rows_written (run s weather land out).outcome.answer (land_rows land) ≤ i
       → get_or (run s weather land out).output i 0 ≡ get_or out i 0
   output_past i h = past begun i h
-
-  -- .. and so does its length.
-  same_length : {end : Left} → Begun s weather land out the_months end → length end.output ≡ length out
-  same_length (refused refusal) = refl
-  same_length (started passed) = length-kept whole
-
-  pub output-length : length (run s weather land out).output ≡ length out
-  output-length = same_length begun

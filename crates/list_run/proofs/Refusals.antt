@@ -10,14 +10,13 @@ use lib.IntN.{ℤ}
 use lib.ListN.{length}
 use Rattle.month_state.specs.declared.State.{State}
 use Rattle.month_state.specs.declared.Entries.{Entries}
-use Rattle.month_refusals.specs.Asked.{Check}
-use Rattle.month_refusals.specs.Asked.{first_of, checking_order, part_of, Found, found, told, number_and_place, Exactly}
+use Rattle.month_refusals.specs.Asked.{Check, first_of, checking_order, part_of, Found, found, told, number_and_place, Exactly, placed_found}
+use Rattle.month_refusals.specs.Asked.{placed_told}
 use Rattle.month_refusals.specs.Refusals.{soil_asked, bounds_asked, weather_asked, land_asked, carbon_asked, entries_asked, entries_check}
 use Rattle.month_refusals.proofs.First.{or_else, found_at, found_then, exactly}
 use Rattle.month_call.specs.Month.{outcome_of, list_month}
 use Rattle.list_rows.specs.Rows.{land_rows, entries_at}
 use Rattle.list_run.specs.Run.{Left, onward, months, months_asked, rows_asked, room_asked, before_months, list_asked, list_checked, run}
-use Rattle.month_refusals.specs.Asked.{placed_found, placed_told}
 
 -- What a list's answer finds.
 abbrev finding : Left → Found

@@ -12,10 +12,9 @@ use Rattle.month_state.specs.declared.State.{State}
 use Rattle.month_refusals.specs.Refusals.{state_check}
 use Rattle.month_state.specs.declared.Row.{Row}
 use Rattle.month_state.specs.declared.Outcome.{Outcome}
-use Rattle.month_call.specs.Month.{month_call, list_month}
+use Rattle.month_call.specs.Month.{month_call, list_month, Answer}
 use Rattle.month_demand3.specs.Calls.{run_calls}
-use Rattle.list_rows.specs.Rows.{land_rows, entries_at}
-use Rattle.list_rows.specs.Rows.{row_width, row_written}
+use Rattle.list_rows.specs.Rows.{land_rows, entries_at, row_width, row_written}
 use Rattle.list_rows.proofs.Layouts.{row_at, row-length}
 use Rattle.list_run.specs.Run.{Left, months, run, rows_written}
 use Rattle.list_run.specs.ListCalls.{list_calls, RowAt, state_at, OwnRow}
@@ -23,7 +22,6 @@ use Rattle.month_call.proofs.Laws.{single, month-sound}
 use Rattle.list_run.proofs.Months as courses
 use Rattle.list_run.proofs.Months.{Course, course, kept-before, Begun, begun}
 use Rattle.list_run.proofs.ListCalls.{done_months, shift}
-use Rattle.month_call.specs.Month.{Answer}
 
 -- A row that is written stands at its place, ..
 here : (out : List ℕ) (j : ℕ) (row : Row) → row_width * j + row_width ≤ length out → RowAt (row_written out j row) j row

@@ -25,7 +25,8 @@ list_calls (suc left) weather land j done =
 
 -- The state after so many months from the one at place j is that of their calls, of which every one
 -- is accepted.
-pub record Ran (weather land : List ℤ) (j : ℕ) (s : State) (months : ℕ) (after : State) : Type 0 where
+pub record Ran (weather land : List ℤ) (j : ℕ) (s : State) (months : ℕ) (after : State)
+    : Type 0 where
   pub state : after ≡ run_calls s (list_calls months weather land j s.months)
   pub accepted : accepted_calls s (list_calls months weather land j s.months) ≡ months
 
@@ -75,7 +76,8 @@ state_at weather land j s ran = run_calls s (list_calls ran weather land j s.mon
 
 -- The output has the row of the month that follows so many months: what that month's own call
 -- answers.
-pub record OwnRow (weather land : List ℤ) (j : ℕ) (s : State) (ran : ℕ) (output : List ℕ) : Type 0 where
+pub record OwnRow (weather land : List ℤ) (j : ℕ) (s : State) (ran : ℕ) (output : List ℕ)
+    : Type 0 where
   pub row : Row
   pub call :
       (month_call (state_at weather land j s ran) ((state_at weather land j s ran).months + 1)
@@ -85,10 +87,12 @@ pub record OwnRow (weather land : List ℤ) (j : ℕ) (s : State) (ran : ℕ) (o
   pub at : RowAt output (j + ran) row
 
 -- Demand 3 of a list from the new state of a soil, for so many months that ran.
-pub record ListDemand3 (s : Soil) (weather land : List ℤ) (months : ℕ) (after : State) : Type 0 where
+pub record ListDemand3 (s : Soil) (weather land : List ℤ) (months : ℕ) (after : State)
+    : Type 0 where
   pub balance :
       total after.soil.pools + after.co2.0
       ≡ total s.pools + added_carbon (new_state s) (list_calls months weather land 0 0)
   pub distances :
-      (x : Exact) → Leads s (feed (new_state s) (list_calls months weather land 0 0)) (exact_start s) x
+      (x : Exact)
+      → Leads s (feed (new_state s) (list_calls months weather land 0 0)) (exact_start s) x
       → total_distance after x ≼ whole (20 * months)

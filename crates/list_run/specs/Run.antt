@@ -1,6 +1,7 @@
 -- A list of months, step 7 of document 01, and what it asks: 3, 4 to 7, 8 and 10 with place 0, then
 -- month by month what a month's entries are asked.
-use Rattle.std.specs.Prelude.{Result, Ok, Err, ◌||◌, List, [], ◌∷◌, ◌++◌, ℕ, zero, suc, ◌+◌, ◌-◌, ◌*◌, ltb, ℤ, length}
+use Rattle.std.specs.Prelude.{Result, Ok, Err, ◌||◌, List, [], ◌∷◌, ◌++◌, ℕ, zero, suc, ◌+◌, ◌-◌}
+use Rattle.std.specs.Prelude.{◌*◌, ltb, ℤ, length}
 use Rattle.month_state.specs.declared.State.{State}
 use Rattle.month_state.specs.declared.Outcome.{Outcome}
 use Rattle.month_refusals.specs.declared.RefusedAt.{RefusedAt}
@@ -13,8 +14,8 @@ use Rattle.kept_months.specs.Kept.{keep}
 use Rattle.list_rows.specs.Rows.{weather_width, land_width, row_width, row_written}
 use Rattle.list_rows.specs.Rows.{land_rows, rows_outside, entries_at}
 
--- A list's answer: it ran to its end, or it was refused at a place: 0, or the month counted from its
--- first.
+-- A list's answer: it ran to its end, or it was refused at a place: 0, or the month counted from
+-- its first.
 abbrev pub ListAnswer : Type 0
 ListAnswer = Result Unit RefusedAt
 
@@ -29,12 +30,6 @@ pub record Left : Type 0 where
 abbrev pub refused_at : Refusal → ℕ → State → List ℕ → Left
 refused_at refusal place s out =
     record { outcome = record { answer = Err (refusal on place); state = s }; output = out }
-
--- The answer of a list that ends with a month's answer: finished, or the month's refusal at its
--- place.
-abbrev pub ended : Answer → ℕ → ListAnswer
-ended (Ok row) place = Ok tt
-ended (Err refusal) place = Err (refusal on place)
 
 -- After the month at place j, counted from 0: refused, the list stops there with the state and the
 -- rows before it; else its row is written, and the later months follow.
@@ -58,8 +53,8 @@ rows_written (Ok _) months = months
 rows_written (Err e) months = e.place - 1
 
 -- What so many months keep, from the one at place j: the state before each of them (change
--- 2026-02). Of a list they are those that have written their rows: a list that is refused at a month
--- has kept the ones before it.
+-- 2026-02). Of a list they are those that have written their rows: a list that is refused at a
+-- month has kept the ones before it.
 unfoldable pub kept_months : ℕ → List ℤ → List ℤ → ℕ → State → List ℕ → List ℕ
 kept_months zero weather land j s memory = memory
 kept_months (suc left) weather land j s memory =
@@ -71,7 +66,9 @@ kept_months (suc left) weather land j s memory =
 -- 3: the weather's or the land's numbers are no rows, or their rows are outside 1 to 1,200.
 unfoldable pub rows_asked : List ℤ → List ℤ → List Asked
 rows_asked weather land =
-    (Rows if (rows_outside weather_width (length weather) || rows_outside land_width (length land))) ∷ []
+    (Rows
+    if (rows_outside weather_width (length weather) || rows_outside land_width (length land)))
+    ∷ []
 
 -- 8: an output of so many numbers is too short for its rows.
 unfoldable pub room_asked : ℕ → ℕ → List Asked
@@ -80,7 +77,8 @@ room_asked rows room = (Room if ltb room (row_width * rows)) ∷ []
 -- 3, 4 to 7, 8 and 10: before the months.
 unfoldable pub before_months : State → List ℤ → List ℤ → ℕ → List Asked
 before_months s weather land room =
-    rows_asked weather land ++ (soil_asked s.soil ++ (room_asked (land_rows land) room ++ bounds_asked s))
+    rows_asked weather land
+    ++ (soil_asked s.soil ++ (room_asked (land_rows land) room ++ bounds_asked s))
 
 -- What the entries of so many months are asked, from the month at place j on, each at its month
 -- counted from 1.

@@ -14,18 +14,16 @@ use Rattle.step_turnover.proofs.Laws.{turned_length, modern_turned_length}
 use Rattle.month_state.specs.declared.Soil.{Soil}
 use Rattle.month_state.specs.declared.State.{State}
 use Rattle.month_state.specs.declared.Entries.{Entries}
-use Rattle.month_refusals.specs.Asked.{Check}
+use Rattle.month_refusals.specs.Asked.{Check, at, found, told, number_and_place, Exactly, answer_found, answer_told}
 use Rattle.month_refusals.specs.declared.Refusal.{Refusal}
-use Rattle.month_refusals.specs.Asked.{at, found, told, number_and_place, Exactly}
 use Rattle.month_refusals.specs.Refusals.{month_asked, state_check, entries_check, month_check}
 use Rattle.month_refusals.proofs.First.{found_at, found-at, exactly}
 use Rattle.month_state.proofs.Kept.{one-more-most}
 use Rattle.month_refusals.proofs.Accepted.{Sound, Ready, sound-state, state-passes, natural_most, ready, month-parts, month_is_entries}
-use Rattle.month_call.specs.Month.{largest_deficit, pools_after, modern_after, next_deficit, next_rate, moved_to, Accepted, outcome_of, month_call, list_month}
+use Rattle.month_call.specs.Month.{largest_deficit, pools_after, modern_after, next_deficit, next_rate, moved_to, Accepted, outcome_of, month_call}
+use Rattle.month_call.specs.Month.{list_month, Answer, steps_of}
 use Rattle.month_call.specs.declared.AfterSteps.{AfterSteps}
 use Rattle.month_state.specs.declared.Outcome.{Outcome}
-use Rattle.month_call.specs.Month.{Answer, steps_of}
-use Rattle.month_refusals.specs.Asked.{answer_found, answer_told}
 use Rattle.month_call.proofs.Steps.{deficit-most, state_rate_most, survivals_in_range, month-balance, modern-after-most}
 
 -- ---- acceptance

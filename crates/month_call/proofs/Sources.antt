@@ -13,12 +13,12 @@ use Rattle.step_water.proofs.Laws.{deficit_four_for_three}
 use Rattle.month_state.specs.declared.State.{State}
 use Rattle.month_state.specs.declared.Entries.{Entries}
 use Rattle.std.proofs.lemmas.Bool.{or_from}
-use Rattle.month_refusals.specs.Asked.{Check}
+use Rattle.month_refusals.specs.Asked.{Check, Asked, ◌if◌, first_of}
 use Rattle.month_refusals.specs.declared.Refusal.TheVariants.{MonthLimit}
-use Rattle.month_refusals.specs.Asked.{Asked, ◌if◌, first_of}
 use Rattle.month_refusals.specs.Refusals.{outside, temperature_outside, water_outside, source_outside, limit_reached, state_asked, turn_asked}
 use Rattle.month_refusals.specs.Refusals.{weather_asked, carbon_asked, entries_asked, month_asked, entries_check, month_check}
-use Rattle.month_call.specs.Month.{crop, largest_deficit, deficit_after, rate_after, next_deficit, next_rate, row_of, moved_to, outcome_of, month_call, list_month}
+use Rattle.month_call.specs.Month.{crop, largest_deficit, deficit_after, rate_after, next_deficit, next_rate, row_of, moved_to, outcome_of}
+use Rattle.month_call.specs.Month.{month_call, list_month}
 use Rattle.month_call.specs.Sources.{with_evaporation, FourForThree}
 
 in_range_lem : (n : ℕ) → n ≤ 20000 → outside (pos 0) (pos 20000) (pos n) ≡ false

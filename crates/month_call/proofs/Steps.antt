@@ -4,7 +4,7 @@
 use mathlib.Core.Path.{◌≡◌, refl, sym}
 use mathlib.Core.Bool.{Bool, true, false}
 use mathlib.Core.List.{List}
-use Prim.Native.Nat.{ℕ, ◌+◌, ◌≤◌, ◌<◌, ◌^◌}
+use Prim.Native.Nat.{ℕ, ◌+◌, ◌≤◌, ◌<◌}
 use native.Mathlib.Nat.{mul-le-mul}
 use native.Mathlib.Omega.{arith}
 use lib.Dec.{lit≤, leb→le}
@@ -31,12 +31,7 @@ use Rattle.month_state.specs.declared.Entries.{Entries}
 use Rattle.month_refusals.proofs.Accepted.{SoundSoil, Sound, LandReady, Ready, Between, natural_most}
 use Rattle.month_call.specs.Month.{crop, largest_deficit, deficit_after, rate_after, next_deficit, next_rate, pools_after, gas_of, modern_after}
 
--- An entry in its range goes to a call as bits, and is read back as the same number: one from 0 to k, ..
-pub natural_back : (k : ℕ) (z : ℤ) → k < 2 ^ 63 → Between (pos 0) (pos k) z → to_z w64 (of_z w64 z) ≡ z
-natural_back k (pos n) small h = let m = leb→le n k h.to.le in read (pos n) (omega (arith, m, small))
-natural_back k (negsuc n) small h = absurd h.from.le
-
--- .. and a temperature.
+-- A temperature in its range goes to a call as bits, and is read back as the same number.
 pub temperature_back : (t : ℤ) → Between (negsuc 399) (pos 500) t → to_z w64 (of_z w64 t) ≡ t
 temperature_back (pos n) h = let m = leb→le n 500 h.to.le in read (pos n) (omega (arith, m))
 temperature_back (negsuc n) h = let m = leb→le n 399 h.from.le in read (negsuc n) (omega (arith, m))

@@ -26,7 +26,8 @@ use step_water::{Evaporation, max_deficit, moisture_factor, new_deficit};
 pub type Answer = Result<Row, Refusal>;
 
 // What steps 1 to 6 give: the pools after the month, its CO2, the new deficit, and the modern grams
-// after it.
+// after it. They are fields as in the row and the state: a `TurnedBoth` in here would be taken apart
+// where both are built.
 #[derive(Clone, Copy)]
 struct AfterSteps {
     pools: [Grams; 4],
@@ -37,6 +38,7 @@ struct AfterSteps {
 
 // Whether a crop covers the soil.
 // The land's check stays a clause: a type with it would be built in four functions for three users.
+#[tactic(auto, using(month_checks::proofs::Checked::cover_asked))]
 fn under_crop(l: Land) -> bool
     requires { land_check l ≡ Ok tt }
     ensures { result ≡ crop l }
@@ -44,7 +46,8 @@ fn under_crop(l: Land) -> bool
     natural(l.cover) == 1
 }
 
-// The month's evaporation, by its source.
+// The month's evaporation, by its source. No `TryFrom` as of a kind: 19 has let 0 and 1 pass alone.
+#[tactic(auto, using(month_checks::proofs::Checked::evaporation_read))]
 fn evaporation_of(w: Weather) -> Evaporation
     requires { weather_check w ≡ Ok tt }
     ensures source { is_potential result ≡ potential w }
@@ -53,9 +56,10 @@ fn evaporation_of(w: Weather) -> Evaporation
     let source = natural(w.source);
     let tenths = natural(w.evaporation);
     if source == 1 {
-        return Evaporation::Potential(tenths);
+        Evaporation::Potential(tenths)
+    } else {
+        Evaporation::OpenPan(tenths)
     }
-    Evaporation::OpenPan(tenths)
 }
 
 // Step 3: the new deficit, with the soil's largest one.
@@ -82,23 +86,19 @@ fn rate_after(s: State, largest: Parts, d: Parts, e: Entries) -> u64
     rate_number(crop, a, b)
 }
 
-// A month's additions and their activity, as numbers without a sign.
-fn additions_of(kind: Kind, l: Land) -> (Additions, u64)
+// A month's additions, as numbers without a sign.
+#[tactic(auto, using(month_checks::proofs::Checked::additions_given))]
+fn additions_of(kind: Kind, l: Land) -> Additions
     requires { land_check l ≡ Ok tt }
-    ensures kind { result.0.kind ≡ kind }
-    ensures plant { (result.0.plant.0 ≡ nat_abs l.plant) × (result.0.plant.0 ≤ 100000000) }
-    ensures manure { (result.0.manure.0 ≡ nat_abs l.manure) × (result.0.manure.0 ≤ 100000000) }
-    ensures activity { (result.1 ≡ nat_abs l.activity) × (result.1 ≤ 2000) }
+    ensures kind { result.kind ≡ kind }
+    ensures plant { (result.plant.0 ≡ nat_abs l.plant) × (result.plant.0 ≤ 100000000) }
+    ensures manure { (result.manure.0 ≡ nat_abs l.manure) × (result.manure.0 ≤ 100000000) }
 {
-    let plant = natural(l.plant);
-    let manure = natural(l.manure);
-    let activity = natural(l.activity);
-    let given = Additions {
+    Additions {
         kind,
-        plant: Grams(plant),
-        manure: Grams(manure),
-    };
-    (given, activity)
+        plant: Grams(natural(l.plant)),
+        manure: Grams(natural(l.manure)),
+    }
 }
 
 // Steps 1 to 6 of an accepted month. The row and the state are built of what comes back where they
@@ -115,7 +115,8 @@ fn run_steps(s: State, e: Entries) -> AfterSteps
     let r = clay_number(soil.clay);
     let shares = Shares { survival, r };
     let kind = Kind::try_from(soil.kind).unwrap();
-    let (given, activity) = additions_of(kind, e.land);
+    let given = additions_of(kind, e.land);
+    let activity = natural(e.land.activity);
     let turned = turn_both(soil.pools, s.modern, shares, given, activity);
     let TurnedBoth { pools, co2, modern } = turned;
     AfterSteps {
@@ -153,7 +154,7 @@ fn done(s: State, after: AfterSteps) -> Outcome<Answer, State>
         soil: Soil { pools, ..s.soil },
         deficit,
         months: s.months + 1,
-        co2: Grams(s.co2.0 + co2.0),
+        co2: s.co2 + co2,
         modern,
         kept,
     };
@@ -163,7 +164,9 @@ fn done(s: State, after: AfterSteps) -> Outcome<Answer, State>
     }
 }
 
-// The single month call: the next state, or after a refusal the one that was given. The answer's
+// The single month call: the next state, or after a refusal the one that was given, which need not
+// pass its checks, so that `list_month` is no part of it. State, number and entries stay apart, here
+// and above, as the papers' call has them. The answer's
 // number and place are the papers'.
 pub fn month(s: State, number: u64, e: Entries) -> Outcome<Answer, State>
     ensures outcome { result ≡ month_call s number e }

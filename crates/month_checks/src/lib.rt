@@ -7,8 +7,8 @@ ghost use Rattle.month_refusals.specs.Asked.{Finds};
 ghost use Rattle.month_refusals.specs.Refusals.{outside, temperature_outside, water_outside};
 ghost use Rattle.month_refusals.specs.Refusals.{source_outside, cover_outside, additions_outside};
 ghost use Rattle.month_refusals.specs.Refusals.{activity_outside, ceiling_passed, state_asked};
-ghost use Rattle.month_refusals.specs.Refusals.{turn_asked, weather_asked, land_asked, carbon_asked};
-ghost use Rattle.month_refusals.specs.Refusals.{entries_asked, month_asked, land_check};
+ghost use Rattle.month_refusals.specs.Refusals.{turn_asked, weather_asked, land_asked, land_check};
+ghost use Rattle.month_refusals.specs.Refusals.{carbon_asked, entries_asked, month_asked};
 
 use month_refusals::{CheckedState, Refusal, check_bounds, check_soil};
 use month_state::{Entries, Land, State, Weather, natural};
@@ -28,6 +28,8 @@ fn outside(first: i64, last: i64, z: i64) -> bool
 {
     !(first..=last).contains(&z)
 }
+
+// Each of the papers' conditions is a function of its name, and all are said by `outside`.
 
 // 13: temperature is outside -400 to 500.
 #[tactic(auto, unfolding(month_refusals::specs::Refusals::temperature_outside))]
@@ -113,7 +115,7 @@ fn check_land(l: Land) -> Result<(), Refusal>
 
 // 17: active pools before the month, plus plant and manure, exceed the ceiling. The state's pools
 // are checked, so that no sum wraps.
-#[tactic(auto, unfolding(month_refusals::specs::Refusals::ceiling_passed))]
+#[tactic(auto, using(crate::proofs::Checked::additions_given, crate::proofs::Checked::pools_checked), unfolding(month_refusals::specs::Refusals::ceiling_passed))]
 fn ceiling_passed(s: CheckedState, l: Land) -> bool
     requires { land_check l ≡ Ok tt }
     ensures { result ≡ ceiling_passed s.state l }
@@ -149,7 +151,7 @@ pub fn check_entries(s: CheckedState, e: Entries) -> Result<(), Refusal>
 }
 
 // 11, then 12 to 17 with 19 after 14 and 21 after 16.
-#[tactic(auto, unfolding(month_refusals::specs::Refusals::turn_asked, month_refusals::specs::Refusals::out_of_turn, month_refusals::specs::Asked::first_of, month_refusals::specs::Asked::at, month_refusals::specs::Asked::found))]
+#[tactic(auto, using(crate::proofs::Checked::months_checked), unfolding(month_refusals::specs::Refusals::turn_asked, month_refusals::specs::Refusals::out_of_turn, month_refusals::specs::Asked::first_of, month_refusals::specs::Asked::at, month_refusals::specs::Asked::found))]
 fn check_turn(s: CheckedState, number: u64, e: Entries) -> Result<(), Refusal>
     ensures { Finds (turn_asked s.state number ++ entries_asked s.state e) result }
 {

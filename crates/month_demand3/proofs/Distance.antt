@@ -19,7 +19,8 @@ use Rattle.month_refusals.specs.Refusals.{month_check}
 use Rattle.month_state.specs.State.{new_state}
 use Rattle.month_call.specs.Month.{deficit_after, rate_after, pools_after, with_pools, moved_to, next_deficit, next_rate, outcome_of, month_call}
 use Rattle.month_demand3.specs.Calls.{Call, state_after, is_done, accepts, run_calls, accepted_calls}
-use Rattle.month_demand3.specs.Recurrence.{Fed, feed, Exact, exact_start, Fractions, AllowedAt, exact_formed, exact_month, exact_rate, Leads, none, refused, month}
+use Rattle.month_demand3.specs.Recurrence.{Fed, feed, Exact, exact_start, Fractions, AllowedAt, exact_formed, exact_month, exact_rate, Leads, none}
+use Rattle.month_demand3.specs.Recurrence.{refused, month}
 use Rattle.month_demand3.specs.Demand.{total_distance}
 use Rattle.month_demand3.proofs.Step.{month-distance}
 use Rattle.month_demand3.proofs.Bounds.{Bounds, accepted_bounds}

@@ -18,7 +18,8 @@ use Rattle.month_refusals.specs.Refusals.{month_check}
 use Rattle.month_state.specs.State.{new_state}
 use Rattle.month_call.specs.Month.{outcome_of, month_call}
 use Rattle.month_demand3.specs.Calls.{Call, state_after, is_done}
-use Rattle.month_demand3.specs.Recurrence.{Fed, feed, Exact, exact_start, Fractions, Allowed, AllowedAt, exact_month, exact_rate, Leads, none, refused, month}
+use Rattle.month_demand3.specs.Recurrence.{Fed, feed, Exact, exact_start, Fractions, Allowed, AllowedAt, exact_month, exact_rate, Leads, none}
+use Rattle.month_demand3.specs.Recurrence.{refused, month}
 use Rattle.month_demand3.proofs.Bounds.{Bounds, accepted_bounds}
 use Rattle.month_demand3.proofs.Distance.{Follows, starts, same_rate, month_follows}
 

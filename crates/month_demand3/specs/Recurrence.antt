@@ -115,6 +115,7 @@ pub data Leads (s : Soil) : List Fed → Exact → Exact → Type 0 where
   refused : {e : Entries} {later : List Fed} {x y : Exact}
       → Leads s later x y → Leads s (record { entries = e; accepted = false } ∷ later) x y
   month :
-      {e : Entries} {later : List Fed} {x y : Exact} (q : Fractions) → AllowedAt q (exact_rate s e x)
+      {e : Entries} {later : List Fed} {x y : Exact} (q : Fractions)
+      → AllowedAt q (exact_rate s e x)
       → Leads s later (exact_month s e q x) y
       → Leads s (record { entries = e; accepted = true } ∷ later) x y

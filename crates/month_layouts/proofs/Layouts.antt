@@ -8,15 +8,14 @@ use native.Mathlib.Nat.{add_assoc, add-zero, zero-add}
 use native.Mathlib.Omega.{arith}
 use lib.Dec.{lit<}
 use lib.ListN.{length, get_or, set, take, drop, take-append-drop, length-append, length-drop, drop_of_length-le, get_or-append}
-use lib.Seq.{take_all, drop-cons, drop-drop, get_or-append-add, get_or-drop, get_or-set_other, length-take-le, take_at, drop_at}
-use lib.Seq.{sets, sets-eq}
+use lib.Seq.{take_all, drop-cons, drop-drop, get_or-append-add, get_or-drop, get_or-set_other, length-take-le, take_at, drop_at, sets, sets-eq}
 use borrow.Rule.Slice.PartMut.{put_mid}
 use Rattle.number_units.specs.declared.Grams.{Grams}
 use Rattle.step_pools.specs.Pools.{grams}
 use Rattle.month_state.specs.declared.State.{State}
 use Rattle.month_state.specs.State.{with_kept}
 use Rattle.month_layouts.specs.Layouts.{kept_width, state_width, pools_from, soil_from, state_from, state_of, kept_numbers, state_numbers}
-use Rattle.month_layouts.specs.Layouts.{memory_width, field_width, memory_of, field_numbers}
+use Rattle.month_layouts.specs.Layouts.{field_width, memory_of, field_numbers}
 
 -- ---- numbers of any kind, put from a place on
 
@@ -222,7 +221,8 @@ kept_by s kept h =
     (whole (grams 0) s.soil.pools 4 h.pools) (whole (grams 0) s.modern 4 h.modern)
 
 -- It is read so from the part that begins there.
-pub part_read : (numbers : List ℕ) (place kept : ℕ) → state_from (take (length numbers - place) (drop place numbers)) 0 kept ≡ state_from numbers place kept
+pub part_read : (numbers : List ℕ) (place kept : ℕ)
+    → state_from (take (length numbers - place) (drop place numbers)) 0 kept ≡ state_from numbers place kept
 part_read numbers place kept =
     ap (λ (part : List ℕ). state_from part 0 kept) (take_all (length numbers - place) (drop place numbers) (omega (arith, length-drop place numbers)))
     ∙ read_by (drop place numbers) 0 kept
@@ -270,58 +270,12 @@ pub field-memory : (s : State) (memory : List ℕ) → memory_of (field_numbers 
 unfolding state_numbers kept_numbers
 field-memory s memory = refl
 
--- The memory of the kept ones, as a part of a field that is lent and comes back.
-abbrev pub lent : List ℕ → List ℕ
-lent field = take (length field - state_width) (drop state_width field)
-
-abbrev pub returned : List ℕ → List ℕ → List ℕ
-returned field memory = put_mid state_width (length field - state_width) field memory
-
 module _ (field : List ℕ) (all : length field ≡ field_width) where
-  memory-size : length (memory_of field) ≡ length field - state_width
-  memory-size = length-drop state_width field
-
-  -- All of it is lent, ..
-  pub lent_is : lent field ≡ memory_of field
-  lent_is = take_all (length field - state_width) (memory_of field) (omega (arith, memory-size))
-
-  pub lent_length : length (lent field) ≡ memory_width
-  lent_length = ap length lent_is ∙ memory-size ∙ rw all
-
-  -- .. and nothing lies after what comes back.
-  back_whole : (memory : List ℕ) → returned field memory ≡ take state_width field ++ memory
-  back_whole memory =
-      ap (λ (rest : List ℕ). take state_width field ++ (memory ++ rest))
-      (drop_of_length-le (memory_of field) {i = length field - state_width} (omega (arith, memory-size)))
-      ∙ ap (λ (l : List ℕ). take state_width field ++ l) (append-nil memory)
-
-  state_part : length (take state_width field) ≡ state_width
-  state_part = length-take-le state_width field (omega arith)
-
-  pub back-length : (memory : List ℕ) → state_width ≤ length (returned field memory)
-  back-length memory = rw (back_whole memory) (omega (arith, state_part, length-append {A = ℕ} (take state_width field) memory))
-
-  -- Come back unchanged it leaves the field as it was, ..
-  pub back-same : {memory : List ℕ} → memory ≡ lent field → returned field memory ≡ field
-  back-same {memory} is =
-      back_whole memory ∙ ap (λ (l : List ℕ). take state_width field ++ l) (is ∙ lent_is) ∙ take-append-drop state_width field
-
-  -- .. and a state that is put then is the field's, with that memory.
-  pub field_moved : (memory : List ℕ) (s : State) → sets (returned field memory) 0 (state_numbers s) ≡ field_numbers s memory
-  field_moved memory s =
-      ap (λ (l : List ℕ). sets l 0 (state_numbers s)) (back_whole memory)
-      ∙ sets-eq (state_numbers s) (take state_width field ++ memory) 0
-      (omega (arith, state_of_length s, state_part, length-append {A = ℕ} (take state_width field) memory))
-      ∙ ap (λ (l : List ℕ). state_numbers s ++ l)
-      (ap (λ (n : ℕ). drop n (take state_width field ++ memory)) (zero-add _ ∙ state_of_length s)
-      ∙ drop_at (take state_width field) memory state_width state_part)
-
   -- A state put in a field leaves the kept ones, ..
   pub field_put : (s : State) → sets field 0 (state_numbers s) ≡ field_numbers s (memory_of field)
   field_put s =
-      ap (λ (l : List ℕ). sets l 0 (state_numbers s)) (sym (back-same refl))
-      ∙ field_moved (lent field) s
-      ∙ ap (field_numbers s) lent_is
+      sets-eq (state_numbers s) field 0 (omega (arith, state_of_length s))
+      ∙ ap (λ (n : ℕ). state_numbers s ++ drop n field) (zero-add _ ∙ state_of_length s)
 
   -- .. and put back as it was it leaves all as it was.
   pub field-same : field_numbers (state_of field) (memory_of field) ≡ field

@@ -1,13 +1,13 @@
 // The layouts of soils and states as numbers in lent memory, read and written. The crate list_rows
 // has those of rows. Memory is a slice and not an array, since it may go on after them. There is no
-// `From`: it would have to stand in month_state, beside the types.
+// `From`: it would have to stand in month_state, beside the types. A place stands beside a slice
+// where numbers are part of a layout.
 #![tactic(auto)]
 
 ghost use Rattle.std.specs.Prelude.{◌≡◌, ◌+◌, ◌≤◌, length, take, drop};
 ghost use Rattle.std.proofs.lemmas.List.Edits.{sets};
-ghost use Rattle.month_layouts.specs.Layouts.{soil_width, kept_width, state_width};
-ghost use Rattle.month_layouts.specs.Layouts.{soil_from, state_from, state_of};
-ghost use Rattle.month_layouts.specs.Layouts.{kept_numbers, state_numbers};
+ghost use Rattle.month_layouts.specs.Layouts.{soil_width, kept_width, state_width, soil_from};
+ghost use Rattle.month_layouts.specs.Layouts.{state_from, state_of, kept_numbers, state_numbers};
 
 use month_state::{Soil, State};
 use number_units::{Grams, Parts};
@@ -43,6 +43,7 @@ pub fn put_numbers_at<T: Copy, const N: usize>(numbers: &mut [T], place: usize, 
 }
 
 // The soil that memory begins with.
+#[tactic(auto, using(crate::proofs::Layouts::read_there), unfolding(crate::specs::Layouts::soil_from, crate::specs::Layouts::pools_from))]
 pub fn soil_of(numbers: &[u64]) -> Soil
     requires { soil_width ≤ length numbers.now }
     ensures { result ≡ soil_from numbers.now 0 }
@@ -58,6 +59,7 @@ pub fn soil_of(numbers: &[u64]) -> Soil
 }
 
 // The state as it is kept that memory begins with, with so many kept beside it.
+#[tactic(auto, using(crate::proofs::Layouts::read_there), unfolding(crate::specs::Layouts::state_from, crate::specs::Layouts::pools_from))]
 pub fn kept_of(numbers: &[u64], kept: u64) -> State
     requires { kept_width ≤ length numbers.now }
     ensures { result ≡ state_from numbers.now 0 kept }
@@ -88,19 +90,26 @@ pub fn put_kept(numbers: &mut [u64], s: State)
     requires { kept_width ≤ length numbers.old }
     ensures { numbers.new ≡ sets numbers.old 0 (kept_numbers s) }
 {
-    let soil = s.soil;
-    let pools = soil.pools;
-    let Grams(iom) = soil.iom;
-    let Parts(deficit) = s.deficit;
-    let [dpm, rpm, bio, hum] = s.modern;
-    put_numbers_at(
-        numbers,
-        0,
-        [
-            soil.clay, soil.depth, soil.kind, pools[0].0, pools[1].0, pools[2].0, pools[3].0, iom,
-            deficit, s.months, s.co2.0, dpm.0, rpm.0, bio.0, hum.0,
-        ],
-    );
+    let [dpm, rpm, bio, hum] = s.soil.pools;
+    let [modern_dpm, modern_rpm, modern_bio, modern_hum] = s.modern;
+    let values = [
+        s.soil.clay,
+        s.soil.depth,
+        s.soil.kind,
+        dpm.0,
+        rpm.0,
+        bio.0,
+        hum.0,
+        s.soil.iom.0,
+        s.deficit.0,
+        s.months,
+        s.co2.0,
+        modern_dpm.0,
+        modern_rpm.0,
+        modern_bio.0,
+        modern_hum.0,
+    ];
+    put_numbers_at(numbers, 0, values);
 }
 
 // The numbers of the current state, written at the start of memory. Everything else stays.

@@ -23,12 +23,10 @@ use Rattle.month_state.specs.State.{carbon_ceiling, month_limit, kept_limit, new
 use Rattle.std.proofs.lemmas.Bool.{or_cases, or_parts, or_from}
 use Rattle.month_refusals.specs.declared.Refusal.TheVariants.{Turn}
 use Rattle.month_refusals.specs.Refusals.{clay_outside, depth_outside, kind_other, carbon_above, carbon_bounds_passed, modern_bound, modern_above}
-use Rattle.month_refusals.specs.Refusals.{bounds_passed, out_of_turn, limit_reached, activity_outside}
-use Rattle.month_refusals.specs.Refusals.{outside, temperature_outside, water_outside, source_outside, cover_outside, additions_outside}
-use Rattle.month_refusals.specs.Refusals.{ceiling_passed}
-use Rattle.month_refusals.specs.Refusals.{soil_asked, bounds_asked, state_asked, turn_asked, weather_asked, land_asked, carbon_asked}
-use Rattle.month_refusals.specs.Refusals.{entries_asked, month_asked}
-use Rattle.month_refusals.specs.Refusals.{soil_check, state_check, weather_check, land_check, entries_check, month_check}
+use Rattle.month_refusals.specs.Refusals.{bounds_passed, out_of_turn, limit_reached, activity_outside, outside, temperature_outside, water_outside}
+use Rattle.month_refusals.specs.Refusals.{source_outside, cover_outside, additions_outside, ceiling_passed, soil_asked, bounds_asked, state_asked}
+use Rattle.month_refusals.specs.Refusals.{turn_asked, weather_asked, land_asked, carbon_asked, entries_asked, month_asked, soil_check, state_check}
+use Rattle.month_refusals.specs.Refusals.{weather_check, land_check, entries_check, month_check}
 use Rattle.month_refusals.specs.Asked.{first_of}
 use Rattle.month_refusals.proofs.First.{passes-one, one_passes, passes-parts, parts_pass, first-append}
 

@@ -1,16 +1,37 @@
 -- The one law of refusals, over any list of what is asked: a refusal is given exactly where its condition holds and none before it
 -- in the list does, and nothing is found exactly where none applies. With it, how lists are joined and placed.
 -- Assumes nothing.
-use Rattle.std.specs.Prelude.{Ok, Err}
-use mathlib.Core.Path.{◌≡◌, refl, sym, ◌∙◌, ap}
-use mathlib.Core.Bool.{Bool, true, false, not, ◌||◌, ◌&&◌}
+use Rattle.std.specs.Prelude.{Result, Ok, Err, IsErrAnd, MatchResult, is_ok}
+use Rattle.std.specs.Result.{result_unwrap_or}
+use mathlib.Core.Path.{◌≡◌, refl, sym, ◌∙◌, ap, subst}
+use mathlib.Core.Bool.{Bool, true, false, true≢false, not, ◌||◌, ◌&&◌}
 use mathlib.Core.List.{List, [], ◌∷◌, ◌++◌}
 use Prim.Native.Nat.{ℕ, ◌+◌}
 use native.Mathlib.Omega.{arith}
-use Rattle.month_refusals.specs.Asked.{Check}
-use Rattle.month_refusals.specs.declared.Refusal.{Refusal}
-use Rattle.month_refusals.specs.Asked.{check_number, number_and_place, Asked, given, first_of, Finds, Placed, at, Found, nothing, refused}
+use Rattle.month_refusals.specs.Asked.{Check, check_number, number_and_place, Asked, given, first_of, Finds, Placed, at, Found, nothing, refused}
 use Rattle.month_refusals.specs.Asked.{found_if, found, First, here, after, NoneApplies, none, more, Exactly}
+use Rattle.month_refusals.specs.declared.Refusal.{Refusal}
+
+-- ---- what is left by `?`
+
+-- It is the refusal, or what that becomes.
+pub left_by : {Given R : Type 0} (answer : Result Given R) {r : R} → IsErrAnd answer (λ other. other ≡ r) → answer ≡ Err r
+left_by (Ok given) h = absurd h
+left_by (Err other) h = ap Err h
+
+-- What `map_err` gives of an answer: where it gives a value, the answer had it; ..
+pub value_kept :
+    {Given R R' : Type 0} (answer : Result Given R) (Made : R → R' → Type 0) {mapped : Result Given R'} {x : Given}
+    → MatchResult answer (λ y. mapped ≡ Ok y) (λ r. IsErrAnd mapped (Made r)) → mapped ≡ Ok x → answer ≡ Ok x
+value_kept (Ok y) Made made is = ap (λ g. Ok (result_unwrap_or g y)) (sym made ∙ is)
+value_kept (Err r) Made made is = absurd (subst (λ g. IsErrAnd g (Made r)) is made)
+
+-- .. and where it refuses, the answer was refused, and the refusal is made of the answer's.
+pub refusal_made :
+    {Given R R' : Type 0} (answer : Result Given R) (Made : R → R' → Type 0) {mapped : Result Given R'} {r' : R'}
+    → MatchResult answer (λ y. mapped ≡ Ok y) (λ r. IsErrAnd mapped (Made r)) → mapped ≡ Err r' → (r : R) × (answer ≡ Err r) × Made r r'
+refusal_made (Ok y) Made made is = absurd (true≢false (ap is_ok (sym made ∙ is)))
+refusal_made (Err r) Made made is = (r, refl, subst (λ g. IsErrAnd g (Made r)) is made)
 
 -- ---- places
 

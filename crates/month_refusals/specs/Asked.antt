@@ -4,7 +4,11 @@ use Rattle.std.specs.Prelude.{◌≡◌, Bool, true, false, cond, List, [], ◌�
 use Rattle.month_refusals.specs.declared.NumberAndPlace.{NumberAndPlace}
 use Rattle.month_refusals.specs.declared.RefusedAt.{RefusedAt}
 use Rattle.month_refusals.specs.declared.Refusal.{Refusal}
-use Rattle.month_refusals.specs.declared.Refusal.TheVariants.{Length, Form, Rows, Clay, Depth, Kind, Carbon, Room, Years, Bounds, Turn, MonthLimit, Temperature, Water, Cover, Additions, Ceiling, TableForm, Source, NoneKept, Activity, NoCarbon}
+use Rattle.month_refusals.specs.declared.Refusal.TheVariants.{Length, Form, Rows, Clay, Depth, Kind}
+use Rattle.month_refusals.specs.declared.Refusal.TheVariants.{Carbon, Room, Years, Bounds, Turn}
+use Rattle.month_refusals.specs.declared.Refusal.TheVariants.{MonthLimit, Temperature, Water, Cover}
+use Rattle.month_refusals.specs.declared.Refusal.TheVariants.{Additions, Ceiling, TableForm, Source}
+use Rattle.month_refusals.specs.declared.Refusal.TheVariants.{NoneKept, Activity, NoCarbon}
 
 -- ---- numbers
 

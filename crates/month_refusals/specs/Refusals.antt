@@ -1,6 +1,7 @@
 -- The refusals of a soil, a state and a month, in the papers' words and order. Each call takes its
 -- part of the list.
-use Rattle.std.specs.Prelude.{Bool, not, ◌||◌, List, [], ◌∷◌, ◌++◌, ℕ, ◌+◌, ◌*◌, leb, ltb, eqb, ℤ, pos, negsuc, nat_abs}
+use Rattle.std.specs.Prelude.{Bool, not, ◌||◌, List, [], ◌∷◌, ◌++◌, ℕ, ◌+◌, ◌*◌, leb, ltb, eqb, ℤ}
+use Rattle.std.specs.Prelude.{pos, negsuc, nat_abs}
 use Rattle.std.specs.Int.Signed.{lt_z}
 use Rattle.step_water.specs.Water.{max_deficit}
 use Rattle.step_pools.specs.Pools.{total}
@@ -10,9 +11,11 @@ use Rattle.month_state.specs.declared.Weather.{Weather}
 use Rattle.month_state.specs.declared.Land.{Land}
 use Rattle.month_state.specs.declared.Entries.{Entries}
 use Rattle.month_state.specs.State.{carbon_ceiling, month_limit, kept_limit}
-use Rattle.month_refusals.specs.Asked.{Check}
-use Rattle.month_refusals.specs.declared.Refusal.TheVariants.{Clay, Depth, Kind, Carbon, Bounds, Turn, MonthLimit, Temperature, Water, Source, Cover, Additions, Activity, Ceiling}
-use Rattle.month_refusals.specs.Asked.{Asked, ◌if◌, first_of}
+use Rattle.month_refusals.specs.Asked.{Check, Asked, ◌if◌, first_of}
+use Rattle.month_refusals.specs.declared.Refusal.TheVariants.{Clay, Depth, Kind, Carbon, Bounds}
+use Rattle.month_refusals.specs.declared.Refusal.TheVariants.{Turn, MonthLimit, Temperature, Water}
+use Rattle.month_refusals.specs.declared.Refusal.TheVariants.{Source, Cover, Additions, Activity}
+use Rattle.month_refusals.specs.declared.Refusal.TheVariants.{Ceiling}
 
 -- ---- the conditions
 
@@ -102,7 +105,11 @@ ceiling_passed s l =
 -- 4 to 7: a soil.
 unfoldable pub soil_asked : Soil → List Asked
 soil_asked s =
-    (Clay if clay_outside s) ∷ (Depth if depth_outside s) ∷ (Kind if kind_other s) ∷ (Carbon if carbon_above s) ∷ []
+    (Clay if clay_outside s)
+    ∷ (Depth if depth_outside s)
+    ∷ (Kind if kind_other s)
+    ∷ (Carbon if carbon_above s)
+    ∷ []
 
 -- 10: the bounds of a state.
 unfoldable pub bounds_asked : State → List Asked

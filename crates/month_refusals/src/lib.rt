@@ -5,7 +5,7 @@
 ghost use Rattle.std.specs.Prelude.{◌≡◌, ◌≤◌, ◌^◌, ltb, Ok};
 ghost use Rattle.step_pools.specs.Pools.{total};
 ghost use Rattle.month_state.specs.State.{month_limit};
-ghost use Rattle.month_refusals.specs.Asked.{refusal_number, Finds, placed_told};
+ghost use Rattle.month_refusals.specs.Asked.{refusal_number, Finds, ◌on◌, placed_told};
 ghost use Rattle.month_refusals.specs.Refusals.{depth_outside, kind_other, carbon_above};
 ghost use Rattle.month_refusals.specs.Refusals.{carbon_bounds_passed, modern_above};
 ghost use Rattle.month_refusals.specs.Refusals.{soil_asked, bounds_asked, soil_check, state_check};
@@ -49,9 +49,20 @@ impl Refusal {
     {
         self as u64
     }
+
+    // The refusal on a line, or at a month.
+    pub fn on(self, place: u64) -> RefusedAt
+        ensures { result ≡ self on place }
+    {
+        RefusedAt {
+            refusal: self,
+            place,
+        }
+    }
 }
 
-// A refusal on a line of a book or a table, or at a month of a list or a spin-up.
+// A refusal on a line of a book or a table, or at a month of a list or a spin-up. The papers give
+// the place 0 to what is asked before these.
 #[derive(Clone, Copy, PartialEq, Eq)]
 pub struct RefusedAt {
     pub refusal: Refusal,
@@ -81,7 +92,8 @@ pub fn placed_told<T: Copy>(answer: Result<T, RefusedAt>) -> NumberAndPlace
     }
 }
 
-// A state that passes 4 to 7 and 10. Whoever has a check that found nothing builds it.
+// A state that passes 4 to 7 and 10. Whoever has a check that found nothing builds it: no check
+// gives it, since a list and a spin-up ask something of their own between the two parts.
 #[derive(Clone, Copy)]
 pub struct CheckedState {
     pub state: State,
@@ -99,6 +111,8 @@ fn total_above(bound: u64, pools: [Grams; 4]) -> bool
     bound < dpm || bound < rpm || bound < bio || bound < hum || bound < dpm + rpm + bio + hum
 }
 
+// Here too each of the papers' conditions is a function of its name.
+
 // 5: depth is outside 1 to 100.
 #[tactic(auto, unfolding(crate::specs::Refusals::depth_outside))]
 fn depth_outside(s: Soil) -> bool
@@ -107,7 +121,7 @@ fn depth_outside(s: Soil) -> bool
     !(1..=100).contains(&s.depth)
 }
 
-// 6: kind is not 1, 2 or 3.
+// 6: kind is not 1, 2 or 3. The kinds' own type is step 6's, on which refusals don't rest.
 #[tactic(auto, unfolding(crate::specs::Refusals::kind_other))]
 fn kind_other(s: Soil) -> bool
     ensures { result ≡ kind_other s }
@@ -145,6 +159,7 @@ pub fn check_soil(s: Soil) -> Result<(), Refusal>
 
 // 10 but for modern grams: D is outside 0 to M, the months or the kept ones are too many, or CO2
 // and active pools together are above their bound. The CO2 is tested before the pools are added.
+// The return is early since only fewer months than the limit make a bound that fits 64 bits.
 #[tactic(auto, unfolding(crate::specs::Refusals::carbon_bounds_passed))]
 fn carbon_bounds_passed(s: State) -> bool
     requires { soil_check s.soil ≡ Ok tt }

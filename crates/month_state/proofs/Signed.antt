@@ -1,8 +1,8 @@
 -- A signed field of a struct goes to a call as bits: read back, they are the field's number again, which fits 64 bits.
 -- Assumes nothing.
-use mathlib.Core.Path.{◌≡◌, ◌∙◌, ap}
-use Prim.Native.Nat.{ℕ, ◌<◌, ◌^◌}
-use lib.IntN.{ℤ, nat_abs}
+use mathlib.Core.Path.{◌≡◌}
+use Prim.Native.Nat.{◌<◌, ◌^◌}
+use lib.IntN.{ℤ}
 use lib.Signed.{mag}
 use mir.Syntax.{w64}
 use mir.Val.{to_z, of_z}
@@ -10,7 +10,3 @@ use mir.Facts.{to_z-of_z}
 
 pub read : (z : ℤ) → mag z < 2 ^ 63 → to_z w64 (of_z w64 z) ≡ z
 read z h = to_z-of_z {w = w64} (record { sfits = h })
-
--- What `natural` gives of the bits is what it gives of the number.
-pub natural_read : (z : ℤ) {n : ℕ} → mag z < 2 ^ 63 → n ≡ nat_abs (to_z w64 (of_z w64 z)) → n ≡ nat_abs z
-natural_read z h e = e ∙ ap nat_abs (read z h)

@@ -72,7 +72,9 @@ pub struct Row {
     pub deficit: Parts,
 }
 
-// What a call answers, with the state beside it.
+// What a call answers, with the state beside it. No `Result` with the state in its `Ok`: a refusal
+// has a state too, the one that was given, or a list's after the months that ran, and the promises
+// say which.
 #[derive(Clone, Copy)]
 pub struct Outcome<T, S> {
     pub answer: T,

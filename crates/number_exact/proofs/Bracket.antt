@@ -3,7 +3,8 @@
 use mathlib.Core.Path.{◌≡◌, refl, sym, ◌∙◌, ap, ap₂}
 use mathlib.Core.Bool.{Bool, true, false, not}
 use Prim.Native.Nat.{ℕ, zero, suc, ◌+◌, ◌-◌, ◌*◌, ◌^◌, ◌≤◌, ◌<◌}
-use native.Mathlib.Nat.{pow-suc, pow-zero, zero-add, mul-pos, le_trans, mul-le-mul_left, mul-le-mul_right, add-zero, add-suc, suc-add, sub-add_cancel, add-sub_of_le}
+use native.Mathlib.Nat.{pow-suc, pow-zero, zero-add, mul-pos, le_trans, mul-le-mul_left, mul-le-mul_right, add-zero, add-suc, suc-add, sub-add_cancel}
+use native.Mathlib.Nat.{add-sub_of_le}
 use native.Mathlib.Numerals.{add-one}
 use native.Mathlib.Omega.{arith}
 use Rattle.number_exact.specs.Exponential.{agreeing, opposing, denominator, ends_on_plus}

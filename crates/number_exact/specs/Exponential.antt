@@ -1,6 +1,7 @@
 -- e^(-w) of document 01, for a fraction w = a / b: it is fixed by the sums 1 - w + w²/2 - w³/6 + ..
 -- Fractions are compared by cross products, and what a sum subtracts stands on the other side.
-use Rattle.std.specs.Prelude.{◌≡◌, Bool, true, false, not, ℕ, zero, suc, ◌+◌, ◌-◌, ◌*◌, ◌^◌, ◌≤◌, ◌<◌}
+use Rattle.std.specs.Prelude.{◌≡◌, Bool, true, false, not, ℕ, zero, suc, ◌+◌, ◌-◌, ◌*◌, ◌^◌, ◌≤◌}
+use Rattle.std.specs.Prelude.{◌<◌}
 
 -- The denominator of the sum to term k: b^k × k!.
 unfoldable pub denominator : ℕ → ℕ → ℕ

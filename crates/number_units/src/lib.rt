@@ -1,5 +1,5 @@
 // The units of document 01. Each is a type of its own, so that a sum of grams and parts does not
-// type.
+// type. They have no order: where two are compared it is their numbers, as in the papers.
 #![tactic(auto)]
 
 ghost use Rattle.std.specs.Prelude.{◌≡◌, ◌+◌, ◌-◌, ◌<◌, ◌≤◌, ◌^◌};

@@ -1,4 +1,4 @@
--- Laws of ages: the definition, which tries one age after another, gives the smallest that does it, and "older" where none does; and what
+-- Laws of ages: the definition, which tries one age after another, gives the smallest that reaches it, and "older" where none does; and what
 -- each answer says.
 -- Assumes nothing.
 use mathlib.Core.Path.{◌≡◌, refl, sym}
@@ -13,12 +13,12 @@ use Rattle.step_survival.specs.Ages.{age_limit, age_survival}
 use Rattle.step_survival.proofs.Ages.{ages}
 use Rattle.radiocarbon_age.specs.declared.Age.{Age}
 use Rattle.radiocarbon_age.specs.declared.Age.TheVariants.{Years, Older, Newer}
-use Rattle.radiocarbon_age.specs.Age.{does, first_age, age_of, Smallest, NoneDoes, Means}
+use Rattle.radiocarbon_age.specs.Age.{reaches, first_age, age_of, Smallest, NoneDoes, Means}
 
 module _ (modern carbon : ℕ) where
-  -- An age that doesn't do it: no smaller one does either.
+  -- An age that does not reach it: no smaller one does either.
   pub no_smaller_lem :
-      (y : ℕ) → y ≤ age_limit → does modern carbon y ≡ false → (z : ℕ) → z ≤ y
+      (y : ℕ) → y ≤ age_limit → reaches modern carbon y ≡ false → (z : ℕ) → z ≤ y
       → 1000000000 * modern < age_survival z * carbon
   no_smaller_lem y h not z le =
       omega (
@@ -29,44 +29,29 @@ module _ (modern carbon : ℕ) where
 
   -- ---- the search by halves
 
-  -- `high` does it, and none below `low` does.
+  -- `high` reaches it, and none below `low` does.
   pub record Searching (low high : ℕ) : Type 0 where
     pub order : low ≤ high
     pub within : high ≤ age_limit
-    pub does_it : does modern carbon high ≡ true
+    pub reaches_it : reaches modern carbon high ≡ true
     pub none : (z : ℕ) → z < low → 1000000000 * modern < age_survival z * carbon
 
-  pub begun : does modern carbon age_limit ≡ true → Searching 0 age_limit
-  begun h = record { order = omega arith; within = omega arith; does_it = h; none = λ z lt. absurd (omega arith) }
-
-  module _ {low high : ℕ} (middle : ℕ) (h : Searching low high) (from : low ≤ middle) (to : middle < high) where
-    pub lower_half : does modern carbon middle ≡ true → Searching low middle
-    lower_half found =
-        record { order = from; within = omega (arith, h.within); does_it = found; none = h.none }
-
-    pub upper_half : does modern carbon middle ≡ false → Searching (middle + 1) high
-    upper_half not =
-        record {
-          order = omega arith;
-          within = h.within;
-          does_it = h.does_it;
-          none = λ z lt. no_smaller_lem middle (omega (arith, h.within)) not z (omega arith);
-        }
-
-  pub ended : {low high : ℕ} → modern ≤ carbon → Searching low high → high ≤ low → Smallest modern carbon high
-  ended {low} {high} old h over =
+  pub upper_half :
+      {low high : ℕ} (middle : ℕ) → Searching low high → low ≤ middle → middle < high → reaches modern carbon middle ≡ false
+      → Searching (middle + 1) high
+  upper_half middle h from to not =
       record {
-        not_newer = old;
+        order = omega arith;
         within = h.within;
-        does_it = leb-true (age_survival high * carbon) (1000000000 * modern) h.does_it;
-        no_smaller = λ z lt. h.none z (omega (arith, h.order));
+        reaches_it = h.reaches_it;
+        none = λ z lt. no_smaller_lem middle (omega (arith, h.within)) not z (omega arith);
       }
 
   -- ---- trying one age after another
 
   first_found :
-      (left z y : ℕ) → z ≤ y → y < z + left → does modern carbon y ≡ true
-      → ((x : ℕ) → x < y → does modern carbon x ≡ false) → first_age left modern carbon z ≡ Years y
+      (left z y : ℕ) → z ≤ y → y < z + left → reaches modern carbon y ≡ true
+      → ((x : ℕ) → x < y → reaches modern carbon x ≡ false) → first_age left modern carbon z ≡ Years y
   unfolding first_age
   first_found zero z y low high found not = absurd (omega arith)
   first_found (suc left) z y low high found not = elim (dec_le y z) [
@@ -75,7 +60,7 @@ module _ (modern carbon : ℕ) where
   ]
 
   none_found :
-      (left z : ℕ) → ((x : ℕ) → x < z + left → does modern carbon x ≡ false) → first_age left modern carbon z ≡ Older
+      (left z : ℕ) → ((x : ℕ) → x < z + left → reaches modern carbon x ≡ false) → first_age left modern carbon z ≡ Older
   unfolding first_age
   none_found zero z not = refl
   none_found (suc left) z not = rw (not z (omega arith)) (none_found left (suc z) (λ x h. not x (omega arith)))
@@ -86,7 +71,7 @@ module _ (modern carbon : ℕ) where
   unfolding age_of
   years_are y h =
       rw (le-ltb carbon modern h.not_newer)
-      (first_found (age_limit + 1) 0 y (omega arith) (omega (arith, h.within)) (le-leb _ _ h.does_it)
+      (first_found (age_limit + 1) 0 y (omega arith) (omega (arith, h.within)) (le-leb _ _ h.reaches_it)
       (λ x lt. lt-leb _ _ (h.no_smaller x lt)))
 
   pub older_are : NoneDoes modern carbon → age_of modern carbon ≡ Older
@@ -117,7 +102,7 @@ module _ (modern carbon : ℕ) where
         newer = λ e. absurd (let z : ◌≡◌ {A = ℕ} 0 1 = cc in omega arith);
       }
 
-  -- From an age on below which none does it.
+  -- From an age on below which none reaches it.
   first_means :
       (left z : ℕ) → modern ≤ carbon → z + left ≡ age_limit + 1
       → ((x : ℕ) → x < z → 1000000000 * modern < age_survival x * carbon) → Means modern carbon (first_age left modern carbon z)
@@ -125,10 +110,10 @@ module _ (modern carbon : ℕ) where
   first_means zero z old sum none =
       no_age refl (record { not_newer = old; none = λ x le. none x (omega (arith, sum)) })
   first_means (suc left) z old sum none =
-      by_test (does modern carbon z) refl (λ below. first_means left (suc z) old (omega (arith, sum)) below)
+      by_test (reaches modern carbon z) refl (λ below. first_means left (suc z) old (omega (arith, sum)) below)
     where
       by_test :
-          (test : Bool) → does modern carbon z ≡ test
+          (test : Bool) → reaches modern carbon z ≡ test
           → (((x : ℕ) → x < suc z → 1000000000 * modern < age_survival x * carbon)
           → Means modern carbon (first_age left modern carbon (suc z)))
           → Means modern carbon (cond test (Years z) (first_age left modern carbon (suc z)))
@@ -137,7 +122,7 @@ module _ (modern carbon : ℕ) where
           (record {
             not_newer = old;
             within = omega (arith, sum);
-            does_it = leb-true (age_survival z * carbon) (1000000000 * modern) is;
+            reaches_it = leb-true (age_survival z * carbon) (1000000000 * modern) is;
             no_smaller = none;
           })
       by_test false is later = later below

@@ -8,30 +8,30 @@ use Rattle.radiocarbon_age.specs.declared.Age.TheVariants.{Years, Older, Newer}
 
 -- The survival number of y years is at most 1,000,000,000 × modern / carbon, compared as fractions:
 -- by cross products.
-abbrev pub does : ℕ → ℕ → ℕ → Bool
-does modern carbon y = leb (age_survival y * carbon) (1000000000 * modern)
+abbrev pub reaches : ℕ → ℕ → ℕ → Bool
+reaches modern carbon y = leb (age_survival y * carbon) (1000000000 * modern)
 
--- The first of so many ages, from y on, that does it. (`cond` gives the first where the test is
+-- The first of so many ages, from y on, that reaches it. (`cond` gives the first where the test is
 -- true.)
 unfoldable pub first_age : ℕ → ℕ → ℕ → ℕ → Age
 first_age zero modern carbon y = Older
 first_age (suc left) modern carbon y =
-    cond (does modern carbon y) (Years y) (first_age left modern carbon (suc y))
+    cond (reaches modern carbon y) (Years y) (first_age left modern carbon (suc y))
 
--- The age of so many modern grams in so much carbon: of 0 to 60,000 the first that does it.
+-- The age of so many modern grams in so much carbon: of 0 to 60,000 the first that reaches it.
 unfoldable pub age_of : ℕ → ℕ → Age
 age_of modern carbon = cond (ltb carbon modern) Newer (first_age (age_limit + 1) modern carbon 0)
 
 -- ---- what an answer says
 
--- y does it, and no smaller one does.
+-- y reaches it, and no smaller one does.
 pub record Smallest (modern carbon y : ℕ) : Type 0 where
   pub not_newer : modern ≤ carbon
   pub within : y ≤ age_limit
-  pub does_it : age_survival y * carbon ≤ 1000000000 * modern
+  pub reaches_it : age_survival y * carbon ≤ 1000000000 * modern
   pub no_smaller : (z : ℕ) → z < y → 1000000000 * modern < age_survival z * carbon
 
--- No age does it.
+-- No age reaches it.
 pub record NoneDoes (modern carbon : ℕ) : Type 0 where
   pub not_newer : modern ≤ carbon
   pub none : (z : ℕ) → z ≤ age_limit → 1000000000 * modern < age_survival z * carbon

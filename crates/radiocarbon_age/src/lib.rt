@@ -4,7 +4,7 @@
 
 ghost use Rattle.std.specs.Prelude.{true, ◌≡◌, ◌≤◌};
 ghost use Rattle.step_survival.specs.Ages.{age_limit};
-ghost use Rattle.radiocarbon_age.specs.Age.{does, age_of, Smallest, Means};
+ghost use Rattle.radiocarbon_age.specs.Age.{reaches, age_of, Smallest, Means};
 
 use step_survival::age_survival;
 
@@ -19,47 +19,55 @@ pub enum Age {
     Newer,
 }
 
-// The two numbers and their bounds have no type of their own, here and below: `age_of` alone would
-// make it, for two functions of one call each.
-//
-// Whether the survival number of y years is at most 1,000,000,000 × modern / carbon.
-fn does(modern: u64, carbon: u64, y: u64) -> bool
-    requires { (modern ≤ carbon) × (carbon ≤ 2000000000) × (y ≤ age_limit) }
-    ensures { result ≡ does modern carbon y }
-{
-    age_survival(y) * carbon <= 1_000_000_000 * modern
+// So many modern grams in so much carbon, which is at most 2,000,000,000, as in a state that passes.
+#[derive(Clone, Copy)]
+pub struct ModernShare {
+    pub modern: u64,
+    pub carbon: u64,
+    ghost within: { carbon ≤ 2000000000 },
 }
 
-// The smallest age that does it, where the largest does. It is never below `low`, and `high` always
-// does it. By hand: the library searches slices by halves, and ages are computed, in no slice.
-fn smallest(modern: u64, carbon: u64) -> u64
-    requires grams { (modern ≤ carbon) × (carbon ≤ 2000000000) }
-    requires found { does modern carbon age_limit ≡ true }
-    ensures { Smallest modern carbon result }
-{
-    let mut low = 0;
-    let mut high = AGE_LIMIT;
-    while low < high {
-        let middle = (low + high) / 2;
-        if does(modern, carbon, middle) {
-            high = middle;
-        } else {
-            low = middle + 1;
+impl ModernShare {
+    // Whether the survival number of y years is at most 1,000,000,000 × modern / carbon.
+    fn reaches(self, y: u64) -> bool
+        requires { (self.modern ≤ self.carbon) × (y ≤ age_limit) }
+        ensures { result ≡ reaches self.modern self.carbon y }
+    {
+        age_survival(y) * self.carbon <= 1_000_000_000 * self.modern
+    }
+
+    // The smallest age that reaches it, where the largest does. It is never below `low`, and `high`
+    // always reaches it. By hand: the library searches slices by halves, and ages are computed, in
+    // no slice.
+    fn smallest(self) -> u64
+        requires old { self.modern ≤ self.carbon }
+        requires found { reaches self.modern self.carbon age_limit ≡ true }
+        ensures { Smallest self.modern self.carbon result }
+    {
+        let mut low = 0;
+        let mut high = AGE_LIMIT;
+        while low < high {
+            let middle = (low + high) / 2;
+            if self.reaches(middle) {
+                high = middle;
+            } else {
+                low = middle + 1;
+            }
         }
+        high
     }
-    high
-}
 
-// The age of so many modern grams in so much carbon.
-pub fn age_of(modern: u64, carbon: u64) -> Age
-    requires { carbon ≤ 2000000000 }
-    ensures { (result ≡ age_of modern carbon) × Means modern carbon result }
-{
-    if carbon < modern {
-        return Age::Newer;
+    // The age of so many modern grams in so much carbon.
+    pub fn age(self) -> Age
+        ensures { (result ≡ age_of self.modern self.carbon)
+            × Means self.modern self.carbon result }
+    {
+        if self.carbon < self.modern {
+            return Age::Newer;
+        }
+        if self.reaches(AGE_LIMIT) {
+            return Age::Years(self.smallest());
+        }
+        Age::Older
     }
-    if does(modern, carbon, AGE_LIMIT) {
-        return Age::Years(smallest(modern, carbon));
-    }
-    Age::Older
 }

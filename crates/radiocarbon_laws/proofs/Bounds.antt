@@ -14,8 +14,7 @@ use lib.ListN.{length}
 use Rattle.month_state.specs.declared.State.{State}
 use Rattle.month_state.specs.State.{kept_limit, kept_aside}
 use Rattle.month_layouts.specs.Layouts.{state_from}
-use Rattle.month_refusals.specs.Asked.{Check}
-use Rattle.month_refusals.specs.Asked.{first_of}
+use Rattle.month_refusals.specs.Asked.{Check, first_of}
 use Rattle.month_refusals.specs.Refusals.{carbon_bounds_passed, modern_above, bounds_passed, bounds_asked, state_asked, state_check, month_check}
 use Rattle.month_refusals.proofs.Accepted.{sound-state, state-passes}
 use Rattle.month_state.specs.declared.Outcome.{Outcome}
@@ -26,8 +25,7 @@ use Rattle.kept_demand3.specs.Acts.{Act, call, back, Field, after_call, after_ba
 use Rattle.kept_demand3.specs.Demand.{Lent}
 use Rattle.kept_demand3.proofs.Demand.{field-demand3}
 use Rattle.list_rows.specs.Rows.{land_rows}
-use Rattle.list_run.specs.Run.{ListAnswer}
-use Rattle.list_run.specs.Run.{months, before_months, list_checked, run}
+use Rattle.list_run.specs.Run.{ListAnswer, months, before_months, list_checked, run}
 use Rattle.list_run.proofs.Months.{months-sound}
 use Rattle.spin_up.specs.SpinUp.{SpinAnswer, settles, year_answer, year_state, year_end, after_year, years, before_years, spin_checked, spin_up}
 use Rattle.spin_up.proofs.Laws.{year_sound}

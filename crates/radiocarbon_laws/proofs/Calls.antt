@@ -7,9 +7,8 @@ use mathlib.Core.List.{List, [], ◌∷◌}
 use Prim.Native.Nat.{ℕ, ◌+◌}
 use lib.IntN.{nat_abs}
 use Rattle.month_state.specs.declared.State.{State}
-use Rattle.month_call.specs.Month.{Answer}
+use Rattle.month_call.specs.Month.{Answer, month_call}
 use Rattle.month_state.specs.declared.Outcome.{Outcome}
-use Rattle.month_call.specs.Month.{month_call}
 use Rattle.month_demand3.specs.Calls.{Call, state_after, is_done, run_calls, accepted_calls, added_carbon}
 use Rattle.radiocarbon_laws.specs.Along.{answers_along, none_stops}
 use Rattle.radiocarbon_laws.specs.Without.{state_without, entries_without, call_without, calls_without}
@@ -52,5 +51,6 @@ never_calls s (c ∷ calls) bare =
     let never = subst (λ (t : State). call_by_modern t (call_without c) ≡ false) (sym bare)
     (month_never s c.number c.entries) in
     let step = month_without s (entries_without c.entries) c.number never in
-    let stays = ap (λ (t : State). (month_call t c.number (entries_without c.entries)).state) bare ∙ ap (λ (o : Outcome Answer State). o.state) step in
+    let stays = ap (λ (t : State). (month_call t c.number (entries_without c.entries)).state) bare
+    ∙ ap (λ (o : Outcome Answer State). o.state) step in
     both_back never (never_calls (state_after s (call_without c)) calls stays)

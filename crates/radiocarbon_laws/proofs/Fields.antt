@@ -14,12 +14,10 @@ use Rattle.month_state.specs.declared.State.{State}
 use Rattle.month_state.specs.State.{kept_limit, kept_aside, with_kept}
 use Rattle.month_layouts.specs.Layouts.{kept_width, memory_width, pools_from, soil_from, state_from, kept_numbers}
 use Rattle.month_layouts.proofs.Layouts.{Four, put_back, put_apart}
-use Rattle.month_refusals.specs.Asked.{Check}
-use Rattle.month_refusals.specs.Asked.{first_of}
+use Rattle.month_refusals.specs.Asked.{Check, first_of}
 use Rattle.month_refusals.specs.Refusals.{month_check}
-use Rattle.month_call.specs.Month.{Answer}
+use Rattle.month_call.specs.Month.{Answer, month_call}
 use Rattle.month_state.specs.declared.Outcome.{Outcome}
-use Rattle.month_call.specs.Month.{month_call}
 use Rattle.month_call.proofs.Laws.{accepted_moves, refusal_returns}
 use Rattle.month_demand3.specs.Calls.{Call, state_after, is_done, accepts}
 use Rattle.kept_months.specs.Kept.{TakeAnswer, place_of, keep, keep_if, latest, take_asked, take_checked, take_back}
@@ -30,7 +28,8 @@ use Rattle.kept_demand3.specs.Demand.{Lent}
 use Rattle.radiocarbon_laws.specs.Along.{answers_along, none_stops}
 use Rattle.radiocarbon_laws.specs.Without.{state_without, entries_without, call_without, calls_without, outcome_without}
 use Rattle.radiocarbon_laws.specs.Calls.{call_by_modern}
-use Rattle.radiocarbon_laws.specs.Fields.{places_without, field_without, acts_without, ActAnswer, to_call, to_back, act_answer, act_by_modern, acts_up_to, no_act_by_modern, CarbonOfField}
+use Rattle.radiocarbon_laws.specs.Fields.{places_without, field_without, acts_without, ActAnswer, to_call, to_back, act_answer, act_by_modern}
+use Rattle.radiocarbon_laws.specs.Fields.{acts_up_to, no_act_by_modern, CarbonOfField}
 use Rattle.radiocarbon_laws.proofs.Along.{both, both_back, begins}
 use Rattle.radiocarbon_laws.proofs.Months.{month_without, month_never}
 
@@ -178,7 +177,9 @@ module _ (f : Field) (other : List ℕ) (h : Alike f other) where
   after-back : after_back (without f other) ≡ without (after_back f) other
   after-back = λ i. record { state = (back_without f other h i).state; memory = other }
 
-same_acts : (f : Field) (other : List ℕ) (acts : List Act) (earlier : List Call) → Alike f other → no_act_by_modern f acts ≡ true → Same f other acts earlier
+same_acts :
+    (f : Field) (other : List ℕ) (acts : List Act) (earlier : List Call) → Alike f other
+    → no_act_by_modern f acts ≡ true → Same f other acts earlier
 unfolding none_stops acts_without answers_along run_acts remain
 same_acts f other [] earlier h none = record { answers = refl; state = refl; months = refl }
 same_acts f other (call c ∷ acts) earlier h none =
@@ -186,7 +187,9 @@ same_acts f other (call c ∷ acts) earlier h none =
     let answered = call_without_lem f other h c parts.0 in
     let left = after-call f other h c parts.0 in
     let accepted = accepts f.state c in
-    let months-here : cond accepted (call_without c ∷ calls_without earlier) (calls_without earlier) ≡ calls_without (cond accepted (c ∷ earlier) earlier) =
+    let months-here :
+    cond accepted (call_without c ∷ calls_without earlier) (calls_without earlier)
+    ≡ calls_without (cond accepted (c ∷ earlier) earlier) =
     if_without accepted (c ∷ earlier) earlier (cons_without c earlier) in
     let later = same_acts (after_call f c) (other_after f other h c) acts (cond accepted (c ∷ earlier) earlier) (call_alike f other h c) parts.1 in
     record {
@@ -195,7 +198,8 @@ same_acts f other (call c ∷ acts) earlier h none =
           ∙ ap (λ (l : List ActAnswer). act_answer f (call c) ∷ l) later.answers;
       state = (λ i. (run_acts (left i) (acts_without acts)).state) ∙ later.state;
       months =
-          (λ i. remain (left i) (acts_without acts) (cond (is_done (answered i).answer) (call_without c ∷ calls_without earlier) (calls_without earlier)))
+          (λ i. remain (left i) (acts_without acts)
+          (cond (is_done (answered i).answer) (call_without c ∷ calls_without earlier) (calls_without earlier)))
           ∙ ap (remain (without (after_call f c) (other_after f other h c)) (acts_without acts)) months-here
           ∙ later.months;
     }
@@ -241,7 +245,8 @@ places_are zero memory long most place h = absurd (omega arith)
 places_are (suc n) memory long most place h = elim (ℕ_discrete place n) [
   | yes at ↦
       rw at
-      (put_back (places_without n memory) (kept_width * n) (state_without (state_from memory (kept_width * n) 0)) 0 (four_read memory (kept_width * n))
+      (put_back (places_without n memory) (kept_width * n) (state_without (state_from memory (kept_width * n) 0)) 0
+      (four_read memory (kept_width * n))
       (omega (arith, places_length n memory))
       ∙ aside_read memory (kept_width * n))
   | no off ↦
@@ -294,7 +299,8 @@ never_acts f (call c ∷ acts) bare h =
     (λ i. after_call (record { state = bare i; memory = f.memory }) (call_without c)) ∙ left in
     both_back never
     (never_acts (after_call f (call_without c)) acts (ap (λ (g : Field). g.state) stays)
-    (subst (λ (l : List ℕ). Alike (after_call f (call_without c)) l) (sym (ap (λ (g : Field). g.memory) stays)) (call_alike f f.memory h (call_without c))))
+    (subst (λ (l : List ℕ). Alike (after_call f (call_without c)) l) (sym (ap (λ (g : Field). g.memory) stays))
+    (call_alike f f.memory h (call_without c))))
 never_acts f (back ∷ acts) bare h =
     let left = after-back f f.memory h in
     let stays : after_back f ≡ without (after_back f) f.memory = (λ i. after_back (record { state = bare i; memory = f.memory })) ∙ left in

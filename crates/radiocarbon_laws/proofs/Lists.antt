@@ -1,7 +1,7 @@
 -- Lists of months without activities are the lists, but for modern grams, unless 21, or 10 for modern grams, refuses them. By induction over
 -- the months.
 -- Assumes nothing.
-use Rattle.month_refusals.specs.Asked.{◌on◌}
+use Rattle.month_refusals.specs.Asked.{◌on◌, Check, first_of}
 use Rattle.std.specs.Prelude.{Ok, Err}
 use mathlib.Core.Path.{◌≡◌, refl, sym, ◌∙◌, ap}
 use mathlib.Core.Bool.{Bool, false}
@@ -13,13 +13,10 @@ use lib.ListN.{length}
 use Rattle.month_state.specs.declared.State.{State}
 use Rattle.month_state.specs.declared.Entries.{Entries}
 use Rattle.std.proofs.lemmas.Bool.{or_parts}
-use Rattle.month_refusals.specs.Asked.{Check}
 use Rattle.month_refusals.specs.declared.Refusal.{Refusal}
-use Rattle.month_refusals.specs.Asked.{first_of}
 use Rattle.month_state.specs.declared.Outcome.{Outcome}
 use Rattle.list_rows.specs.Rows.{land_rows, row_written, entries_at}
-use Rattle.list_run.specs.Run.{ListAnswer}
-use Rattle.list_run.specs.Run.{Left, refused_at, months, rows_asked, room_asked, before_months, list_checked, run}
+use Rattle.list_run.specs.Run.{ListAnswer, Left, refused_at, months, rows_asked, room_asked, before_months, list_checked, run}
 use Rattle.list_run.proofs.Laws.{goes_on, stops, same_refused}
 use Rattle.list_run.proofs.Months as courses
 use Rattle.radiocarbon_laws.proofs.Rows.{rows-length, entries_without_lem}
@@ -121,7 +118,8 @@ module _ (s : State) (weather land : List ℤ) (out : List ℕ) where
       ap first_of before_same
       ∙ first_less (by_modern s) before_less (λ r refuses. absurd (let z : ◌≡◌ {A = ℕ} 0 1 = cc in omega arith)) ∙ is in
       rw (asked, rows-length land)
-      (months_alone weather land (course weather land (land_rows land) 0 s out) (list_not_21 s (months (land_rows land) weather land 0 s out).outcome.answer h))
+      (months_alone weather land (course weather land (land_rows land) 0 s out)
+      (list_not_21 s (months (land_rows land) weather land 0 s out).outcome.answer h))
   by_check (Err refusal) is h =
       let asked =
       ap first_of before_same
@@ -182,7 +180,8 @@ never_list s weather land out =
     by_check :
         (check : Check) → ((r : Refusal) → check ≡ Err r → by_modern (state_without s) r ≡ false)
         → list_by_modern (state_without s)
-        (list_checked check (state_without s) out (months (land_rows (rows_without land)) weather (rows_without land) 0 (state_without s) out)).outcome.answer
+        (list_checked check (state_without s) out
+        (months (land_rows (rows_without land)) weather (rows_without land) 0 (state_without s) out)).outcome.answer
         ≡ false
     by_check (Ok _) h =
         months_never (state_without s) weather land (course weather (rows_without land) (land_rows (rows_without land)) 0 (state_without s) out)

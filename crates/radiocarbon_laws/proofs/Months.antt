@@ -16,16 +16,15 @@ use Rattle.step_pools.specs.Pools.{total}
 use Rattle.month_state.specs.declared.State.{State}
 use Rattle.month_state.specs.declared.Entries.{Entries}
 use Rattle.std.proofs.lemmas.Bool.{or_left}
-use Rattle.month_refusals.specs.Asked.{Check}
+use Rattle.month_refusals.specs.Asked.{Check, refusal_number, Asked, ◌if◌, given, first_of}
 use Rattle.month_refusals.specs.declared.Refusal.{Refusal}
 use Rattle.month_refusals.specs.declared.Refusal.TheVariants.{Bounds, Activity}
-use Rattle.month_refusals.specs.Asked.{refusal_number, Asked, ◌if◌, given, first_of}
-use Rattle.month_refusals.specs.Refusals.{modern_bound, carbon_bounds_passed, modern_above, bounds_passed, out_of_turn, limit_reached}
-use Rattle.month_refusals.specs.Refusals.{cover_outside, additions_outside, activity_outside, ceiling_passed}
-use Rattle.month_refusals.specs.Refusals.{soil_asked, bounds_asked, state_asked, turn_asked, weather_asked, land_asked, carbon_asked, entries_asked, month_asked}
-use Rattle.month_refusals.specs.Refusals.{entries_check, month_check}
+use Rattle.month_refusals.specs.Refusals.{modern_bound, carbon_bounds_passed, modern_above, bounds_passed, out_of_turn, limit_reached, cover_outside}
+use Rattle.month_refusals.specs.Refusals.{additions_outside, activity_outside, ceiling_passed, soil_asked, bounds_asked, state_asked, turn_asked}
+use Rattle.month_refusals.specs.Refusals.{weather_asked, land_asked, carbon_asked, entries_asked, month_asked, entries_check, month_check}
 use Rattle.month_refusals.proofs.First.{all_own, finds_own}
-use Rattle.month_call.specs.Month.{deficit_after, rate_after, pools_after, gas_of, modern_after, next_deficit, next_rate, moved_to, row_of, outcome_of, month_call, list_month}
+use Rattle.month_call.specs.Month.{deficit_after, rate_after, pools_after, gas_of, modern_after, next_deficit, next_rate, moved_to, row_of}
+use Rattle.month_call.specs.Month.{outcome_of, month_call, list_month}
 use Rattle.radiocarbon_laws.specs.Without.{no_grams, state_without, entries_without, outcome_without}
 use Rattle.radiocarbon_laws.specs.Calls.{by_modern, answer_by_modern}
 use Rattle.radiocarbon_laws.proofs.Nothing.{none-after-month}

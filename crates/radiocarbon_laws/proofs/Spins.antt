@@ -10,17 +10,15 @@ use native.Mathlib.Omega.{arith}
 use lib.IntN.{ℤ}
 use Rattle.month_state.specs.declared.State.{State}
 use Rattle.std.proofs.lemmas.Bool.{or_parts}
-use Rattle.month_refusals.specs.Asked.{Check}
+use Rattle.month_refusals.specs.Asked.{Check, first_of}
 use Rattle.month_refusals.specs.declared.Refusal.{Refusal}
-use Rattle.month_refusals.specs.Asked.{first_of}
 use Rattle.month_refusals.specs.Refusals.{soil_asked, bounds_asked}
-use Rattle.list_run.specs.Run.{ListAnswer}
+use Rattle.list_run.specs.Run.{ListAnswer, Left}
 use Rattle.month_state.specs.declared.Outcome.{Outcome}
-use Rattle.list_run.specs.Run.{Left}
 use Rattle.list_run.proofs.Months.{course}
-use Rattle.spin_up.specs.SpinUp.{SpinAnswer}
+use Rattle.spin_up.specs.SpinUp.{SpinAnswer, settles, year_outcome, year_answer, year_state, year_end, after_year, years, twelve_asked, allowed_asked}
+use Rattle.spin_up.specs.SpinUp.{before_years, spin_checked, spin_up}
 use Rattle.spin_up.specs.declared.Years.TheVariants.{Settled, Unsettled}
-use Rattle.spin_up.specs.SpinUp.{settles, year_outcome, year_answer, year_state, year_end, after_year, years, twelve_asked, allowed_asked, before_years, spin_checked, spin_up}
 use Rattle.radiocarbon_laws.specs.Without.{state_without, rows_without}
 use Rattle.radiocarbon_laws.specs.Calls.{by_modern}
 use Rattle.radiocarbon_laws.specs.Lists.{list_by_modern}
@@ -58,7 +56,9 @@ module _ (weather land : List ℤ) (starting : State) where
   abbrev year_without : State → Outcome ListAnswer State
   year_without s = record { answer = year_answer weather land s; state = state_without (year_state weather land s) }
 
-  year_alone : (s : State) → list_is21 (year_answer weather land s) ≡ false → year_outcome weather (rows_without land) (state_without s) ≡ year_without s
+  year_alone :
+      (s : State) → list_is21 (year_answer weather land s) ≡ false
+      → year_outcome weather (rows_without land) (state_without s) ≡ year_without s
   unfolding year_outcome
   year_alone s h = ap (λ (left : Left). left.outcome) (months_alone weather land (course weather land 12 0 s []) h)
 
@@ -68,8 +68,8 @@ module _ (weather land : List ℤ) (starting : State) where
       → ((u : State) → spin_is21 (more u).answer ≡ false → other (state_without u) ≡ spin_without (more u))
       → (answer : ListAnswer) → year_answer weather land s ≡ answer
       → spin_is21 (after_year answer (year_state weather land s) s before starting more).answer ≡ false
-      → after_year (year_answer weather (rows_without land) (state_without s)) (year_state weather (rows_without land) (state_without s)) (state_without s)
-      before (state_without starting) other
+      → after_year (year_answer weather (rows_without land) (state_without s))
+      (year_state weather (rows_without land) (state_without s)) (state_without s) before (state_without starting) other
       ≡ spin_without (after_year answer (year_state weather land s) s before starting more)
   year_without_lem s before more other later answer is h =
       (λ i. let o = year_alone s (not_21 answer is h) i in after_year o.answer o.state (state_without s) before (state_without starting) other)
@@ -77,7 +77,8 @@ module _ (weather land : List ℤ) (starting : State) where
       ∙ by_answer answer h
     where
       not_21 : (answer : ListAnswer) → year_answer weather land s ≡ answer
-          → spin_is21 (after_year answer (year_state weather land s) s before starting more).answer ≡ false → list_is21 (year_answer weather land s) ≡ false
+          → spin_is21 (after_year answer (year_state weather land s) s before starting more).answer ≡ false
+          → list_is21 (year_answer weather land s) ≡ false
       not_21 (Ok _) is h = ap list_is21 is
       not_21 (Err e) is h = ap list_is21 is ∙ h
 
@@ -98,7 +99,8 @@ module _ (weather land : List ℤ) (starting : State) where
   unfolding years
   years_alone zero before s h = refl
   years_alone (suc left) before s h =
-      year_without_lem s before (years left weather land (suc before) starting) (years left weather (rows_without land) (suc before) (state_without starting))
+      year_without_lem s before (years left weather land (suc before) starting)
+      (years left weather (rows_without land) (suc before) (state_without starting))
       (λ u rest. years_alone left (suc before) u rest) (year_answer weather land s) refl h
 
 -- ---- the spin-up

@@ -1,14 +1,12 @@
 -- "Up to the first refusal by 21, or by 10 for modern grams, the carbon rows and their balance are
 -- those of the same list without activities" (change 2026-04 of document 02): of single month
 -- calls.
-use Rattle.std.specs.Prelude.{Ok, Err}
-use Rattle.std.specs.Prelude.{◌≡◌, Bool, false, not, ◌&&◌, ◌||◌, List, eqb}
+use Rattle.std.specs.Prelude.{Ok, Err, ◌≡◌, Bool, false, not, ◌&&◌, ◌||◌, List, eqb}
 use Rattle.month_state.specs.declared.State.{State}
 use Rattle.month_refusals.specs.declared.Refusal.{Refusal}
 use Rattle.month_refusals.specs.Asked.{refusal_number}
 use Rattle.month_refusals.specs.Refusals.{carbon_bounds_passed}
-use Rattle.month_call.specs.Month.{Answer}
-use Rattle.month_call.specs.Month.{month_call}
+use Rattle.month_call.specs.Month.{Answer, month_call}
 use Rattle.month_demand3.specs.Calls.{Call, state_after, run_calls, accepted_calls, added_carbon}
 use Rattle.radiocarbon_laws.specs.Along.{answers_along, up_to, none_stops, Begins}
 use Rattle.radiocarbon_laws.specs.Without.{state_without, calls_without}

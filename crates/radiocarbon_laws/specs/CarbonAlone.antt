@@ -25,7 +25,8 @@ pub record CarbonAlone : Type 0 where
 -- Without activities there is no such refusal: the whole list is the one that is compared with.
 pub record NoneWithout : Type 0 where
   pub calls :
-      (s : State) (calls : List Call) → none_by_modern (state_without s) (calls_without calls) ≡ true
+      (s : State) (calls : List Call)
+      → none_by_modern (state_without s) (calls_without calls) ≡ true
   pub fields :
       (f : Field) → Lent f → (acts : List Act)
       → no_act_by_modern (field_without f) (acts_without acts) ≡ true

@@ -6,8 +6,7 @@ use Rattle.std.proofs.lemmas.List.Edits.{sets}
 use Rattle.month_state.specs.State.{kept_limit}
 use Rattle.month_layouts.specs.Layouts.{kept_width, state_from, kept_numbers}
 use Rattle.month_call.specs.Month.{Answer}
-use Rattle.kept_months.specs.Kept.{TakeAnswer}
-use Rattle.kept_months.specs.Kept.{take_back}
+use Rattle.kept_months.specs.Kept.{TakeAnswer, take_back}
 use Rattle.kept_demand3.specs.Acts.{Act, call, back, Field, after_act, run_acts, remaining}
 use Rattle.radiocarbon_laws.specs.Along.{answers_along, up_to, none_stops, Begins}
 use Rattle.radiocarbon_laws.specs.Without.{state_without, call_without, calls_without}

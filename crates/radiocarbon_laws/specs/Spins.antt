@@ -1,11 +1,9 @@
 -- The same of spin-ups (document 01), whose years are lists of twelve months.
-use Rattle.std.specs.Prelude.{Ok, Err}
-use Rattle.std.specs.Prelude.{◌≡◌, Bool, false, List, ℕ, ℤ}
+use Rattle.std.specs.Prelude.{Ok, Err, ◌≡◌, Bool, false, List, ℕ, ℤ}
 use Rattle.month_state.specs.declared.State.{State}
-use Rattle.spin_up.specs.SpinUp.{SpinAnswer}
+use Rattle.spin_up.specs.SpinUp.{SpinAnswer, spin_up}
 use Rattle.spin_up.specs.declared.Years.TheVariants.{Settled, Unsettled}
 use Rattle.month_state.specs.declared.Outcome.{Outcome}
-use Rattle.spin_up.specs.SpinUp.{spin_up}
 use Rattle.radiocarbon_laws.specs.Without.{state_without, rows_without}
 use Rattle.radiocarbon_laws.specs.Calls.{by_modern}
 

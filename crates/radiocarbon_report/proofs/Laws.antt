@@ -12,10 +12,10 @@ use Rattle.step_pools.specs.Pools.{total}
 use Rattle.step_modern.specs.Modern.{inert_activity}
 use Rattle.step_modern.proofs.Laws.{modern-most}
 use Rattle.month_state.specs.declared.State.{State}
-use Rattle.month_refusals.specs.Asked.{Check}
+use Rattle.month_refusals.specs.Asked.{Check, ◌if◌, given, at, found, told, number_and_place, first_of, Exactly, checking_order, part_of}
+use Rattle.month_refusals.specs.Asked.{answer_found, answer_told}
 use Rattle.month_refusals.specs.declared.Refusal.{Refusal}
 use Rattle.month_refusals.specs.declared.Refusal.TheVariants.{NoCarbon}
-use Rattle.month_refusals.specs.Asked.{◌if◌, given, at, found, told, number_and_place, first_of, Exactly, checking_order, part_of}
 use Rattle.month_refusals.specs.Refusals.{soil_asked, bounds_asked, state_asked, state_check}
 use Rattle.month_refusals.proofs.First.{found_at, found-at, exactly, followed_by, first-append}
 use Rattle.month_refusals.proofs.Accepted.{Sound, sound-state}
@@ -23,10 +23,7 @@ use Rattle.radiocarbon_age.specs.Age.{age_of}
 use Rattle.radiocarbon_age.proofs.Laws.{age_means}
 use Rattle.radiocarbon_report.specs.declared.Subject.{Subject}
 use Rattle.radiocarbon_report.specs.declared.Subject.TheVariants.{Dpm, Rpm, Bio, Hum, Iom, AllFive}
-use Rattle.radiocarbon_report.specs.declared.Radiocarbon.{Radiocarbon}
-use Rattle.radiocarbon_report.specs.Report.{ReportAnswer}
-use Rattle.radiocarbon_report.specs.Report.{carbon_of, modern_of, report_asked, report_on, report_checked, report, AgeMeans}
-use Rattle.month_refusals.specs.Asked.{answer_found, answer_told}
+use Rattle.radiocarbon_report.specs.Report.{ReportAnswer, carbon_of, modern_of, report_asked, report_on, report_checked, report, AgeMeans}
 
 -- ---- which refusal is given
 

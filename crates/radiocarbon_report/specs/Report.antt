@@ -1,25 +1,19 @@
 -- The radiocarbon report on a state, change 2026-04 of document 02: "Report for a pool or for all
 -- five: delta in hundredths", "and the smallest whole age".
-use Rattle.std.specs.Prelude.{Result}
+use Rattle.std.specs.Prelude.{Result, Ok, Err, ◌≡◌, List, [], ◌∷◌, ◌++◌, ℕ, ◌+◌, ◌*◌, ◌/◌, eqb, ℤ}
+use Rattle.std.specs.Prelude.{pos, ◌-ℤ◌}
 use Rattle.month_refusals.specs.declared.Refusal.{Refusal}
 use Rattle.radiocarbon_report.specs.declared.Radiocarbon.{Radiocarbon}
-use Rattle.std.specs.Prelude.{Ok, Err}
-use Rattle.std.specs.Prelude.{◌≡◌, List, [], ◌∷◌, ◌++◌, ℕ, ◌+◌, ◌*◌, ◌/◌, eqb, ℤ, pos, ◌-ℤ◌}
+use Rattle.number_units.specs.declared.Grams.{Grams}
 use Rattle.step_pools.specs.Pools.{grams_at, total}
 use Rattle.step_modern.specs.Modern.{modern_grams, inert_activity}
 use Rattle.month_state.specs.declared.State.{State}
-use Rattle.month_state.specs.State.{five_pools}
-use Rattle.month_refusals.specs.declared.NumberAndPlace.{NumberAndPlace}
-use Rattle.month_refusals.specs.Asked.{Check}
+use Rattle.month_refusals.specs.Asked.{Check, Asked, ◌if◌, first_of}
 use Rattle.month_refusals.specs.declared.Refusal.TheVariants.{NoCarbon}
-use Rattle.month_refusals.specs.Asked.{Asked, ◌if◌, first_of, Found, nothing, refused}
-use Rattle.month_refusals.specs.Asked.{number_and_place}
 use Rattle.month_refusals.specs.Refusals.{state_asked}
-use Rattle.radiocarbon_age.specs.declared.Age.{Age}
 use Rattle.radiocarbon_age.specs.Age.{age_of, Means}
 use Rattle.radiocarbon_report.specs.declared.Subject.{Subject}
-use Rattle.radiocarbon_report.specs.declared.Subject.TheVariants.{Dpm, Rpm, Bio, Hum, Iom}
-use Rattle.radiocarbon_report.specs.declared.Subject.TheVariants.{AllFive}
+use Rattle.radiocarbon_report.specs.declared.Subject.TheVariants.{Dpm, Rpm, Bio, Hum, Iom, AllFive}
 
 -- A report's answer: delta with the age, or why it is refused.
 abbrev pub ReportAnswer : Type 0
@@ -27,14 +21,18 @@ ReportAnswer = Result Radiocarbon Refusal
 
 -- ---- what is reported on
 
+-- Of the grams of four active pools and of IOM, those of a pool, or of all five.
+abbrev pub grams_of : Subject → List Grams → ℕ → ℕ
+grams_of Dpm pools iom = grams_at pools 0
+grams_of Rpm pools iom = grams_at pools 1
+grams_of Bio pools iom = grams_at pools 2
+grams_of Hum pools iom = grams_at pools 3
+grams_of Iom pools iom = iom
+grams_of AllFive pools iom = total pools + iom
+
 -- The carbon of a pool, or of all five.
 abbrev pub carbon_of : Subject → State → ℕ
-carbon_of Dpm s = grams_at s.soil.pools 0
-carbon_of Rpm s = grams_at s.soil.pools 1
-carbon_of Bio s = grams_at s.soil.pools 2
-carbon_of Hum s = grams_at s.soil.pools 3
-carbon_of Iom s = s.soil.iom.0
-carbon_of AllFive s = five_pools s
+carbon_of subject s = grams_of subject s.soil.pools s.soil.iom.0
 
 -- The modern grams of IOM follow from its carbon.
 abbrev pub inert_modern : State → ℕ
@@ -42,12 +40,7 @@ inert_modern s = modern_grams s.soil.iom.0 inert_activity
 
 -- The modern grams of a pool, or of all five: "weigh activity, never ages".
 abbrev pub modern_of : Subject → State → ℕ
-modern_of Dpm s = grams_at s.modern 0
-modern_of Rpm s = grams_at s.modern 1
-modern_of Bio s = grams_at s.modern 2
-modern_of Hum s = grams_at s.modern 3
-modern_of Iom s = inert_modern s
-modern_of AllFive s = total s.modern + inert_modern s
+modern_of subject s = grams_of subject s.modern (inert_modern s)
 
 -- ---- the report
 

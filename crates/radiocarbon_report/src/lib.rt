@@ -1,18 +1,20 @@
 // The radiocarbon report on a state, change 2026-04 of document 02: delta and age of a pool, or of
-// all five, whose carbon and modern grams are added first.
+// all five, whose carbon and modern grams are added first. Pools are an array, as in the state: the
+// library has no heap.
 #![tactic(auto)]
 
-ghost use Rattle.std.specs.Prelude.{◌≡◌, true, Ok, ◌≤◌, ◌<◌, ◌^◌};
+ghost use Rattle.std.specs.Prelude.{◌≡◌, true, Ok, ◌+◌, ◌≤◌, ◌<◌, ◌^◌};
+ghost use Rattle.step_pools.specs.Pools.{total};
 ghost use Rattle.month_refusals.specs.Asked.{at, told, Exactly, checking_order, part_of};
-ghost use Rattle.radiocarbon_report.specs.Report.{carbon_of, modern_of, delta, report_asked};
-ghost use Rattle.radiocarbon_report.specs.Report.{report_on, report};
 ghost use Rattle.month_refusals.specs.Asked.{answer_found, answer_told};
+ghost use Rattle.radiocarbon_report.specs.Report.{grams_of, delta, report_asked, report_on, report};
 ghost use Rattle.radiocarbon_report.specs.Report.{AgeMeans};
 
 use month_checks::check_state;
-use month_refusals::{CheckedState, Refusal};
-use month_state::{State, five_pools};
-use radiocarbon_age::{Age, age_of};
+use month_refusals::Refusal;
+use month_state::State;
+use number_units::Grams;
+use radiocarbon_age::{Age, ModernShare};
 use step_modern::{INERT_ACTIVITY, modern_grams};
 use step_pools::total;
 
@@ -27,6 +29,24 @@ pub enum Subject {
     AllFive,
 }
 
+impl Subject {
+    // What the subject has of the grams of four active pools and IOM: a pool's own, or all five's.
+    fn grams_of(self, pools: [Grams; 4], iom: Grams) -> Grams
+        requires { total pools + iom.0 < 2 ^ 64 }
+        ensures { result.0 ≡ grams_of self pools iom.0 }
+    {
+        let [dpm, rpm, bio, hum] = pools;
+        match self {
+            Subject::Dpm => dpm,
+            Subject::Rpm => rpm,
+            Subject::Bio => bio,
+            Subject::Hum => hum,
+            Subject::Iom => iom,
+            Subject::AllFive => total(pools) + iom,
+        }
+    }
+}
+
 // A report: delta in hundredths, and the age.
 #[derive(Clone, Copy)]
 pub struct Radiocarbon {
@@ -37,54 +57,22 @@ pub struct Radiocarbon {
 // A report's answer, or why it is refused.
 pub type ReportAnswer = Result<Radiocarbon, Refusal>;
 
-// The carbon of a pool, or of all five.
-fn carbon_of(s: CheckedState, subject: Subject) -> u64
-    ensures { result ≡ carbon_of subject s.state }
-{
-    let soil = s.state.soil;
-    let pools = soil.pools;
-    match subject {
-        Subject::Dpm => pools[0].0,
-        Subject::Rpm => pools[1].0,
-        Subject::Bio => pools[2].0,
-        Subject::Hum => pools[3].0,
-        Subject::Iom => soil.iom.0,
-        Subject::AllFive => five_pools(s.state).0,
-    }
-}
-
-// The modern grams of a pool, or of all five. Those of IOM follow from its carbon.
-fn modern_of(s: CheckedState, subject: Subject) -> u64
-    ensures { result ≡ modern_of subject s.state }
-{
-    let modern = s.state.modern;
-    let inert = modern_grams(s.state.soil.iom, INERT_ACTIVITY).0;
-    match subject {
-        Subject::Dpm => modern[0].0,
-        Subject::Rpm => modern[1].0,
-        Subject::Bio => modern[2].0,
-        Subject::Hum => modern[3].0,
-        Subject::Iom => inert,
-        Subject::AllFive => total(modern).0 + inert,
-    }
-}
-
 // Delta in hundredths.
-fn delta(modern: u64, carbon: u64) -> i64
-    requires { (modern ≤ 2 ^ 46) × (0 < carbon) }
-    ensures { result ≡ delta modern carbon }
+fn delta(share: ModernShare) -> i64
+    requires { (share.modern ≤ 2 ^ 46) × (0 < share.carbon) }
+    ensures { result ≡ delta share.modern share.carbon }
 {
-    (100_000 * modern / carbon) as i64 - 100_000
+    (100_000 * share.modern / share.carbon) as i64 - 100_000
 }
 
 // Delta and age of so many modern grams in so much carbon.
-fn report_on(modern: u64, carbon: u64) -> Radiocarbon
-    requires { (modern ≤ 2 ^ 46) × (0 < carbon) × (carbon ≤ 2000000000) }
-    ensures { Ok result ≡ report_on modern carbon }
+fn report_on(share: ModernShare) -> Radiocarbon
+    requires { (share.modern ≤ 2 ^ 46) × (0 < share.carbon) }
+    ensures { Ok result ≡ report_on share.modern share.carbon }
 {
     Radiocarbon {
-        delta: delta(modern, carbon),
-        age: age_of(modern, carbon),
+        delta: delta(share),
+        age: share.age(),
     }
 }
 
@@ -98,10 +86,17 @@ pub fn report(s: State, subject: Subject) -> ReportAnswer
     ensures age { AgeMeans s subject result }
 {
     check_state(s)?;
-    let checked = CheckedState { state: s };
-    let carbon = carbon_of(checked, subject);
-    if carbon == 0 {
+    let soil = s.soil;
+    let carbon = subject.grams_of(soil.pools, soil.iom);
+    if carbon.0 == 0 {
         return Err(Refusal::NoCarbon);
     }
-    Ok(report_on(modern_of(checked, subject), carbon))
+    // The modern grams of IOM follow from its carbon.
+    let inert = modern_grams(soil.iom, INERT_ACTIVITY);
+    let modern = subject.grams_of(s.modern, inert);
+    let share = ModernShare {
+        modern: modern.0,
+        carbon: carbon.0,
+    };
+    Ok(report_on(share))
 }

@@ -1,5 +1,5 @@
--- The program's exit status. Whether an output was written whole depends on the operating system, of
--- which no definition tells.
+-- The program's exit status. Whether an output was written whole depends on the operating system,
+-- of which no definition tells.
 use Rattle.std.specs.Prelude.{Bool, cond, ℕ}
 use Rattle.rothc.specs.declared.Status.{Status}
 use Rattle.rothc.specs.declared.Status.TheVariants.{Months, Refused, Failed}

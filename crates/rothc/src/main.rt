@@ -7,6 +7,7 @@ ghost use Rattle.std.specs.Prelude.{◌≡◌, ◌<◌, ◌≤◌, false, true, 
 ghost use Rattle.book_report.specs.Report.{book_refused};
 ghost use Rattle.rothc.specs.Status.{status_number, status_of};
 
+use book_report::{OUTPUT_SIZE, report};
 use io::write_all;
 use std::env::{Env, FillError};
 use std::fmt;
@@ -43,6 +44,7 @@ fn read_book<R: Read>(input: &mut R, book: &mut [u8]) -> Result<usize, Error>
 }
 
 // Writes all of a text, in pieces of any length, or fails. A write that takes nothing is a failure.
+// The loop counts nothing: it ends where nothing is left of the text.
 fn write_whole<W: Print>(out: &W, text: &[u8]) -> Result<(), Error> {
     let mut left = text;
     let mut tries = TRIES;
@@ -85,13 +87,14 @@ fn say(rt: &HostRuntime, fault: &Fault) -> Result<(), Error> {
     eprintln!(rt; "{words}")
 }
 
-// Runs a book and writes its output whole, or fails. Gives whether the book was refused.
+// Runs a book and writes its output whole, or fails. Gives whether the book was refused, of which
+// `Status::of` makes a status.
 fn run(rt: &HostRuntime, book: &[u8]) -> Result<bool, Fault>
     ensures { IfOk result (λ refused. refused ≡ book_refused book.now) }
 {
     // An array and a length, as in `read_and_run`: a Vec's memory could fail.
-    let mut out = [0u8; 204_800];
-    let written = book_report::report(book, &mut out);
+    let mut out = [0u8; OUTPUT_SIZE];
+    let written = report(book, &mut out);
     write_whole(rt, &out[..written.length]).map_err(Fault::Output)?;
     Ok(written.refused)
 }
@@ -139,6 +142,7 @@ impl Status {
 // Hands the exit status to ./rothc, where that started the program. A write that fails is made
 // again, since a signal may have interrupted it: the answer doesn't say which.
 fn tell(rt: &HostRuntime, status: Status) {
+    // Of a fixed size, as the book.
     let mut argument = [0u8; 1];
     if let Err(FillError::NotPresent) = rt.arg(1, &mut argument) {
         return;
@@ -150,8 +154,8 @@ fn tell(rt: &HostRuntime, status: Status) {
     }
 }
 
-// The program by itself ends with 0, as is documented, and ./rothc is handed the status: so there is
-// no ExitCode.
+// The program by itself ends with 0, as is documented, and ./rothc is handed the status: so there
+// is no ExitCode.
 fn main(rt: HostRuntime) {
     let ran = read_and_run(&rt);
     if let Err(fault) = &ran {

@@ -1,7 +1,7 @@
 -- Laws of a spin-up that its functions rest on: what a year is, what its first year leaves to the others, and what a spin-up that
 -- passes its checks has.
 -- Assumes nothing.
-use Rattle.month_refusals.specs.Asked.{◌on◌}
+use Rattle.month_refusals.specs.Asked.{◌on◌, Check, first_of, Finds}
 use Rattle.std.specs.Prelude.{Ok, Err}
 use mathlib.Core.Path.{◌≡◌, sym, ◌∙◌, ap}
 use mathlib.Core.Bool.{true, false, not, ◌||◌}
@@ -15,22 +15,18 @@ use lib.Dec.{ltb}
 use lib.IntN.{ℤ}
 use lib.ListN.{length}
 use Rattle.month_state.specs.declared.State.{State}
-use Rattle.month_state.specs.State.{kept_aside}
+use Rattle.month_state.specs.State.{kept_aside, five_pools}
 use Rattle.list_rows.specs.Rows.{weather_width, land_width}
-use Rattle.month_refusals.specs.Asked.{Check}
 use Rattle.month_refusals.specs.declared.RefusedAt.{RefusedAt}
 use Rattle.month_refusals.specs.declared.Refusal.{Refusal}
 use Rattle.month_refusals.specs.declared.Refusal.TheVariants.{Rows, Years}
-use Rattle.month_refusals.specs.Asked.{first_of, Finds}
 use Rattle.month_refusals.specs.Refusals.{soil_asked, bounds_asked, state_check}
 use Rattle.month_refusals.proofs.First.{passes-one, passes-parts, asked-true, asked-false, none_left, then_asked, then_refused}
 use Rattle.std.proofs.lemmas.Bool.{or_parts, or_from, or_left, or_right}
-use Rattle.month_refusals.proofs.Accepted.{sound-state}
-use Rattle.month_state.specs.State.{five_pools}
+use Rattle.month_refusals.proofs.Accepted.{sound-state, parts-state}
 use Rattle.month_state.proofs.Counting.{sub-suc}
 use Rattle.month_state.proofs.Counting as counting
 use Rattle.month_state.specs.declared.Outcome.{Outcome}
-use Rattle.month_refusals.proofs.Accepted.{parts-state}
 use Rattle.list_run.proofs.Months.{course, place_in, months-sound, same_outcome}
 use Rattle.list_run.specs.Run.{ListAnswer, Left, months}
 use Rattle.spin_up.specs.declared.Years.TheVariants.{Settled, Unsettled}
@@ -71,7 +67,8 @@ module _ (left : ℕ) (weather land : List ℤ) (before : ℕ) (starting s : Sta
   stops refusal place h = rw h
 
   pub settled : year_answer weather land s ≡ Ok tt → settles s (year_state weather land s) ≡ true
-      → years (suc left) weather land before starting s ≡ record { answer = Ok (Settled (before + 1)); state = kept_aside (year_state weather land s) }
+      → years (suc left) weather land before starting s
+      ≡ record { answer = Ok (Settled (before + 1)); state = kept_aside (year_state weather land s) }
   unfolding years
   settled done h = rw (done, h)
 

@@ -1,7 +1,7 @@
 -- The years and the state of a spin-up agree: settled is the first year that settles, unsettled is after all the years, and a refusal
 -- returns the starting state.
 -- Assumes nothing.
-use Rattle.month_refusals.specs.Asked.{◌on◌}
+use Rattle.month_refusals.specs.Asked.{◌on◌, Check, first_of, told, Exactly, placed_found, placed_told}
 use Rattle.std.specs.Prelude.{Ok, Err}
 use mathlib.Core.Path.{◌≡◌, refl, sym, ◌∙◌, ap}
 use mathlib.Core.Bool.{Bool, true, false}
@@ -11,21 +11,18 @@ use native.Mathlib.Omega.{arith}
 use lib.IntN.{ℤ}
 use Rattle.month_state.specs.declared.State.{State}
 use Rattle.month_state.specs.State.{kept_aside}
-use Rattle.month_refusals.specs.Asked.{Check}
 use Rattle.month_refusals.specs.declared.Refusal.{Refusal}
-use Rattle.month_refusals.specs.Asked.{first_of}
 use Rattle.month_refusals.specs.Refusals.{state_check}
 use Rattle.list_run.specs.Run.{ListAnswer}
 use Rattle.list_run.specs.ListCalls.{Ran}
 use Rattle.list_run.proofs.ListCalls.{all_ran}
 use Rattle.list_run.proofs.Laws.{same_refused}
 use Rattle.list_run.proofs.Months as months-of
-use Rattle.spin_up.specs.SpinUp.{SpinAnswer}
+use Rattle.spin_up.specs.SpinUp.{SpinAnswer, settles, year_outcome, year_answer, year_state, years, before_years, spin_asked, spin_checked, spin_up}
+use Rattle.spin_up.specs.SpinUp.{spin_years, spin_end}
 use Rattle.spin_up.specs.declared.Years.TheVariants.{Settled, Unsettled}
 use Rattle.month_state.specs.declared.Outcome.{Outcome}
-use Rattle.spin_up.specs.SpinUp.{settles, year_outcome, year_answer, year_state, years, before_years, spin_asked, spin_checked, spin_up, spin_years, spin_end}
 use Rattle.spin_up.specs.Reached.{after_years, answer_after, settles_after, Passed, SettledIn, UnsettledIn, RefusedIn}
-use Rattle.month_refusals.specs.Asked.{told, Exactly, placed_found, placed_told}
 use Rattle.spin_up.proofs.Laws.{stops, settled, goes_on}
 use Rattle.spin_up.proofs.Refusals.{spin_told_lem, spin_exactly}
 
@@ -49,7 +46,8 @@ pub data Course (weather land : List ℤ) (starting : State) : ℕ → ℕ → S
       → Course weather land starting (suc left) before s (record { answer = Err (reason on (12 * before + month)); state = starting })
   settles_now :
       {left before : ℕ} {s : State} → year_answer weather land s ≡ Ok tt → settles s (year_state weather land s) ≡ true
-      → Course weather land starting (suc left) before s (record { answer = Ok (Settled (before + 1)); state = kept_aside (year_state weather land s) })
+      → Course weather land starting (suc left) before s
+      (record { answer = Ok (Settled (before + 1)); state = kept_aside (year_state weather land s) })
   year :
       {left before : ℕ} {s : State} {end : Outcome SpinAnswer State} → year_answer weather land s ≡ Ok tt
       → settles s (year_state weather land s) ≡ false → Course weather land starting left (suc before) (year_state weather land s) end

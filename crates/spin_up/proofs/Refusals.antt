@@ -8,20 +8,16 @@ use mathlib.Core.List.{List, [], ◌∷◌}
 use Prim.Native.Nat.{ℕ, zero, suc, ◌+◌, ◌*◌}
 use lib.IntN.{ℤ}
 use Rattle.month_state.specs.declared.State.{State}
-use Rattle.month_refusals.specs.Asked.{Check}
+use Rattle.month_refusals.specs.Asked.{Check, first_of, checking_order, part_of, Placed, Found, found_if, found, told, number_and_place, Exactly}
+use Rattle.month_refusals.specs.Asked.{placed_found, placed_told}
 use Rattle.month_refusals.specs.declared.Refusal.{Refusal}
-use Rattle.month_refusals.specs.Asked.{first_of, checking_order, part_of, Placed, Found, found_if, found, told, number_and_place, Exactly}
 use Rattle.month_refusals.specs.Refusals.{soil_asked, bounds_asked}
 use Rattle.month_refusals.proofs.First.{or_else, found_later, found_at, found-append, found_then, exactly}
-use Rattle.list_run.specs.Run.{ListAnswer}
-use Rattle.list_run.specs.Run.{months_asked}
-use Rattle.month_refusals.specs.Asked.{placed_found}
+use Rattle.list_run.specs.Run.{ListAnswer, months_asked}
 use Rattle.list_run.proofs.Refusals.{months-found}
 use Rattle.month_state.specs.declared.Outcome.{Outcome}
-use Rattle.spin_up.specs.SpinUp.{settles, year_outcome, year_answer, year_state, after_year, years, later, years_asked}
-use Rattle.spin_up.specs.SpinUp.{twelve_asked, allowed_asked, before_years, spin_asked, spin_checked, spin_up}
-use Rattle.month_refusals.specs.Asked.{placed_found, placed_told}
-use Rattle.spin_up.specs.SpinUp.{SpinAnswer}
+use Rattle.spin_up.specs.SpinUp.{settles, year_outcome, year_answer, year_state, after_year, years, later, years_asked, twelve_asked, allowed_asked}
+use Rattle.spin_up.specs.SpinUp.{before_years, spin_asked, spin_checked, spin_up, SpinAnswer}
 
 -- What a spin-up's answer finds.
 abbrev finding : Outcome SpinAnswer State → Found
@@ -43,7 +39,8 @@ found-later places (x ∷ rest) =
 
 -- A year's refusal is counted over all years; where it has none and doesn't settle, the later years are asked.
 by_answer :
-    (answer : ListAnswer) (test : Bool) (end s : State) (before : ℕ) (starting : State) (after : State → (Outcome SpinAnswer State)) (rest : List Placed)
+    (answer : ListAnswer) (test : Bool) (end s : State) (before : ℕ) (starting : State) (after : State → Outcome SpinAnswer State)
+    (rest : List Placed)
     → settles s end ≡ test → finding (after end) ≡ found rest
     → finding (after_year answer end s before starting after) ≡ or_else (found_later (12 * before) (placed_found answer)) (found (cond test [] rest))
 unfolding found
@@ -67,7 +64,8 @@ module _ (weather land : List ℤ) where
       ∙ sym (found-append (later (12 * before) asked) more ∙ rw (found-later (12 * before) asked))
 
 -- A whole spin-up.
-checked_found : (check : Check) (s : State) (rest : Outcome SpinAnswer State) → finding (spin_checked check s rest) ≡ or_else (found_at 0 check) (finding rest)
+checked_found : (check : Check) (s : State) (rest : Outcome SpinAnswer State)
+    → finding (spin_checked check s rest) ≡ or_else (found_at 0 check) (finding rest)
 checked_found (Ok _) s rest = refl
 checked_found (Err refusal) s rest = refl
 

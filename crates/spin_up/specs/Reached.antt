@@ -1,6 +1,7 @@
 -- What a spin-up's answer says of the years and of the state that is reached: document 01 has the
 -- years and the state agree.
-use Rattle.std.specs.Prelude.{Ok, Err, ◌≡◌, Bool, true, false, List, ℕ, zero, suc, ◌+◌, ◌*◌, ◌≤◌, ◌<◌, ℤ}
+use Rattle.std.specs.Prelude.{Ok, Err, ◌≡◌, Bool, true, false, List, ℕ, zero, suc, ◌+◌, ◌*◌, ◌≤◌}
+use Rattle.std.specs.Prelude.{◌<◌, ℤ}
 use Rattle.month_state.specs.declared.State.{State}
 use Rattle.month_state.specs.State.{kept_aside}
 use Rattle.month_refusals.specs.declared.Refusal.{Refusal}

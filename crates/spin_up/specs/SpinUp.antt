@@ -1,6 +1,7 @@
 -- Spin-up of document 01, and what it asks: 3, 4 to 7, 9 and 10 with place 0, then month by month
 -- what a month's entries are asked.
-use Rattle.std.specs.Prelude.{Result, Ok, Err, Bool, true, false, not, cond, ◌&&◌, ◌||◌, List, [], ◌∷◌, ◌++◌, ℕ, zero, suc, ◌+◌, ◌*◌, leb, ltb, eqb, ℤ, length}
+use Rattle.std.specs.Prelude.{Result, Ok, Err, Bool, true, false, not, cond, ◌&&◌, ◌||◌, List, []}
+use Rattle.std.specs.Prelude.{◌∷◌, ◌++◌, ℕ, zero, suc, ◌+◌, ◌*◌, leb, ltb, eqb, ℤ, length}
 use Rattle.month_state.specs.declared.State.{State}
 use Rattle.month_state.specs.State.{five_pools, kept_aside}
 use Rattle.list_rows.specs.Rows.{weather_width, land_width}
@@ -45,7 +46,8 @@ year_end false years s later = later
 -- place counted over all years and the starting state; else settled or on.
 abbrev pub after_year : ListAnswer → State → State → ℕ → State
     → (State → Outcome SpinAnswer State) → Outcome SpinAnswer State
-after_year (Ok _) end s before starting later = year_end (settles s end) (before + 1) end (later end)
+after_year (Ok _) end s before starting later =
+    year_end (settles s end) (before + 1) end (later end)
 after_year (Err e) end s before starting later =
     record { answer = Err (e.refusal on (12 * before + e.place)); state = starting }
 
@@ -106,7 +108,8 @@ spin_checked (Err refusal) s later = record { answer = Err (refusal on 0); state
 -- A spin-up from a given state of at most the years that are allowed.
 unfoldable pub spin_up : State → List ℤ → List ℤ → ℕ → Outcome SpinAnswer State
 spin_up s weather land allowed =
-    spin_checked (first_of (before_years s weather land allowed)) s (years allowed weather land 0 s s)
+    spin_checked (first_of (before_years s weather land allowed)) s
+    (years allowed weather land 0 s s)
 
 -- The years that an answer tells, 0 where it is refused.
 abbrev pub spin_years : SpinAnswer → ℕ

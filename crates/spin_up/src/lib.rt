@@ -2,9 +2,8 @@
 // years, until a year settles.
 #![tactic(auto)]
 
-ghost use Rattle.std.specs.Prelude.{◌≡◌, ◌*◌, ◌≤◌, length};
+ghost use Rattle.std.specs.Prelude.{◌≡◌, ◌≤◌};
 ghost use Rattle.month_state.specs.State.{kept_aside};
-ghost use Rattle.list_rows.specs.Rows.{weather_width, land_width};
 ghost use Rattle.month_refusals.specs.Asked.{Finds, told, Exactly, placed_found, placed_told};
 ghost use Rattle.spin_up.specs.SpinUp.{settles, year_outcome, years};
 ghost use Rattle.spin_up.specs.SpinUp.{before_years, spin_asked, spin_up, spin_years, spin_end};
@@ -38,10 +37,18 @@ fn settles(start: CheckedState, end: CheckedState) -> bool
     before.abs_diff(after) <= 1000
 }
 
-// A year's twelve months. Their rows and the states that they keep are handed to no one.
-fn year(s: CheckedState, weather: &[i64], land: &[i64]) -> Outcome<ListAnswer, CheckedState>
-    requires { (length weather.now ≡ weather_width * 12)
-        × (length land.now ≡ land_width * 12) }
+// The numbers of twelve weather rows, and of twelve land rows.
+type YearOfWeather = [i64; WEATHER_WIDTH * 12];
+
+type YearOfLand = [i64; LAND_WIDTH * 12];
+
+// A year's twelve months. Their rows and the states that they keep are handed to no one, and lie in
+// arrays, since there is no heap.
+fn year(
+    s: CheckedState,
+    weather: &YearOfWeather,
+    land: &YearOfLand,
+) -> Outcome<ListAnswer, CheckedState>
     ensures { record { answer = result.answer; state = result.state.state }
         ≡ year_outcome weather.now land.now s.state }
 {
@@ -60,22 +67,19 @@ fn none_kept(s: State) -> State
 // The years, one after another until one settles or is refused.
 fn run_years(
     s: CheckedState,
-    weather: &[i64],
-    land: &[i64],
+    weather: &YearOfWeather,
+    land: &YearOfLand,
     allowed: u64,
 ) -> Outcome<SpinAnswer, State>
-    requires rows { (length weather.now ≡ weather_width * 12)
-        × (length land.now ≡ land_width * 12) }
-    requires years { allowed ≤ 10000 }
+    requires { allowed ≤ 10000 }
     ensures { result ≡ years allowed weather.now land.now 0 s.state s.state }
 {
     let mut state = s;
     for before in 0..allowed {
         let ran = year(state, weather, land);
         if let Err(e) = ran.answer {
-            let place = 12 * before + e.place;
             return Outcome {
-                answer: Err(RefusedAt { place, ..e }),
+                answer: Err(e.refusal.on(12 * before + e.place)),
                 state: s.state,
             };
         }
@@ -93,7 +97,8 @@ fn run_years(
     }
 }
 
-// 3, 4 to 7, 9 and 10: a spin-up before its years.
+// 3, 4 to 7, 9 and 10: a spin-up before its years. Not one with a list's: what is asked beside 4 to 7
+// and 10 is another thing there, and stands between them in the papers' order.
 fn check_spin_up(s: State, weather: &[i64], land: &[i64], allowed: u64) -> Result<(), Refusal>
     ensures { Finds (before_years s weather.now land.now allowed) result }
 {
@@ -120,9 +125,14 @@ pub fn spin_up(s: State, weather: &[i64], land: &[i64], allowed: u64) -> Outcome
         (after_years (spin_years result.answer) weather.now land.now s) }
 {
     match check_spin_up(s, weather, land, allowed) {
-        Ok(()) => run_years(CheckedState { state: s }, weather, land, allowed),
+        Ok(()) => {
+            let start = CheckedState { state: s };
+            let weather = weather.as_array().unwrap();
+            let land = land.as_array().unwrap();
+            run_years(start, weather, land, allowed)
+        }
         Err(refusal) => Outcome {
-            answer: Err(RefusedAt { refusal, place: 0 }),
+            answer: Err(refusal.on(0)),
             state: s,
         },
     }

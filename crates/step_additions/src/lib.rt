@@ -60,8 +60,8 @@ fn plant_to_dpm(kind: Kind, plant: Grams) -> Grams
 }
 
 impl Additions {
-    // Step 6: plant carbon and manure come into the four pools, RPM getting the rest of each. Put
-    // in place, as decay is.
+    // Step 6: plant carbon and manure come into the four pools, RPM getting the rest of each.
+    // Inlined, as decay is.
     #[tactic(auto, unfolding(step_pools::specs::Pools::share, step_pools::specs::Pools::total))]
     #[inline(always)]
     pub fn added_to(self, pools: [Grams; 4]) -> [Grams; 4]

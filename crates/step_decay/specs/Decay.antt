@@ -51,8 +51,12 @@ unfoldable pub decayed : List Grams → List ℕ → ℕ → List Grams
 decayed pools survival r =
     grams (kept (grams_at pools 0) (get_or survival 0 0))
     ∷ grams (kept (grams_at pools 1) (get_or survival 1 0))
-    ∷ grams (kept (grams_at pools 2) (get_or survival 2 0) + to_bio (formed (total (losses pools survival)) r))
-    ∷ grams (kept (grams_at pools 3) (get_or survival 3 0) + to_hum (formed (total (losses pools survival)) r))
+    ∷ grams
+    (kept (grams_at pools 2) (get_or survival 2 0)
+    + to_bio (formed (total (losses pools survival)) r))
+    ∷ grams
+    (kept (grams_at pools 3) (get_or survival 3 0)
+    + to_hum (formed (total (losses pools survival)) r))
     ∷ []
 
 -- The second half of step 5, for the function that is handed pools and losses: the pools less their

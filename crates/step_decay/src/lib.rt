@@ -26,7 +26,7 @@ pub fn survivals(n: u64) -> [u64; 4]
 }
 
 // One pool's survival number, as `survivals` has it, and how many terms were summed for it. pool is
-// 0 for DPM, 1 for RPM, 2 for BIO, 3 for HUM.
+// its place in RATES, which C hands over: 0 for DPM, 1 for RPM, 2 for BIO, 3 for HUM.
 pub fn pool_counted(n: u64, pool: usize) -> Counted
     requires { (n ≤ 8363900000) × (pool < 4) }
     ensures survival { result.survival ≡ get_or (survivals n) pool 0 }
@@ -90,7 +90,7 @@ fn split(pools: [Grams; 4], lost: [Grams; 4], r: u64) -> Turned
 }
 
 // Step 5: each pool loses its share, and the losses are split. A month decays carbon and modern
-// grams: in two calls that are not put in place, pools and shares went through memory.
+// grams: in two calls that are not inlined, pools and shares went through memory.
 #[inline(always)]
 pub fn decay(pools: [Grams; 4], shares: Shares) -> Turned
     requires { total pools < 2 ^ 64 }

@@ -1,5 +1,6 @@
 // Grams shared and added: a share of them rounded down, and the sum of four pools, or of their
-// losses, by value.
+// losses, by value. Four pools are an array, here and above, in the papers' order: the steps go over
+// them alike, and a struct of four fields would say each step four times.
 #![tactic(auto)]
 
 ghost use Rattle.std.specs.Prelude.{◌≡◌, ◌≤◌, ◌<◌, ◌^◌};
@@ -24,7 +25,8 @@ pub fn share(grams: Grams, part: u64, whole: u64) -> Grams
     }
 }
 
-// The four, added.
+// The four, added. That they fit 64 bits stays a clause, here and above: it is asked of pools, of
+// losses, and of pools with what they are given, each time of another sum.
 #[tactic(auto, unfolding(crate::specs::Pools::total))]
 pub fn total(four: [Grams; 4]) -> Grams
     requires { total four < 2 ^ 64 }

@@ -4,7 +4,8 @@
 -- Assumes nothing.
 use mathlib.Core.Path.{◌≡◌, refl, sym, ◌∙◌, ap, ap₂}
 use Prim.Native.Nat.{ℕ, zero, suc, ◌+◌, ◌-◌, ◌*◌, ◌/◌, ◌%◌, ◌^◌, ◌≤◌, ◌<◌}
-use native.Mathlib.Nat.{mul-pos, mul_comm, mul-le-mul_left, mul-le-mul, div-mul-le_self, lt-div-mul-add, mod-lt, lt_of_mul-lt-mul_right, div-add-mod', zero-add, zero-mul, mul-zero, zero-div, pow-zero, pow-suc}
+use native.Mathlib.Nat.{mul-pos, mul_comm, mul-le-mul_left, mul-le-mul, div-mul-le_self, lt-div-mul-add, mod-lt, lt_of_mul-lt-mul_right, div-add-mod'}
+use native.Mathlib.Nat.{zero-add, zero-mul, mul-zero, zero-div, pow-zero, pow-suc}
 use native.Mathlib.Omega.{arith}
 use lib.Dec.{lit<, lit≤}
 use Rattle.number_exact.specs.Exponential.{agreeing, opposing, denominator, AtOrBelow, AtOrAbove, AtMostFrom}
@@ -42,14 +43,18 @@ parts-high a b k q p hq hp rate = omega (arith, mul-le-mul_left k hq, mul-le-mul
 module _ (b d : ℕ) (pos : 0 < b) (few : d ≤ 9 * b) where
   rest_below : AtOrBelow (2 ^ 37 - 9) (2 ^ 37) d (2 ^ 37 * b)
   unfolding agreeing opposing denominator
-  rest_below = below_by_sum (2 ^ 37 - 9) (2 ^ 37) d (2 ^ 37 * b) 1 (mul-pos (lit< tt) pos) refl (omega (arith, few, pow-suc d 0, ap (λ t. t * d) (pow-zero d)))
+  rest_below =
+      below_by_sum (2 ^ 37 - 9) (2 ^ 37) d (2 ^ 37 * b) 1 (mul-pos (lit< tt) pos) refl
+      (omega (arith, few, pow-suc d 0, ap (λ t. t * d) (pow-zero d)))
 
   rest-above : AtOrAbove 1 1 d (2 ^ 37 * b)
   unfolding agreeing opposing denominator
   rest-above = above_by_sum 1 1 d (2 ^ 37 * b) 0 (mul-pos (lit< tt) pos) refl (omega arith)
 
 -- ---- e is the table's entry, y the series, s their product rounded
-module _ (e y s : ℕ) (low_s : s * 2 ^ 39 ≤ e * y + 2 ^ 38) (high_s : e * y + 2 ^ 38 < s * 2 ^ 39 + 2 ^ 39) (most : e ≤ 4000000000) (most_y : y ≤ 2 ^ 37) where
+module _
+    (e y s : ℕ) (low_s : s * 2 ^ 39 ≤ e * y + 2 ^ 38) (high_s : e * y + 2 ^ 38 < s * 2 ^ 39 + 2 ^ 39)
+    (most : e ≤ 4000000000) (most_y : y ≤ 2 ^ 37) where
   product_low : (e' y' : ℕ) → e ≡ e' + 1 → y ≡ y' + 8 → (s - 1) * 2 ^ 76 ≤ e' * y' * (2 ^ 37 - 9)
   product_low e' y' ee ey =
       let le : e' ≤ 4000000000 = omega arith in

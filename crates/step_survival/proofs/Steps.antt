@@ -50,7 +50,8 @@ module _ {t : List ℕ} (r : ℕ) (small : r < 2 ^ 32) (is : t ≡ later_terms r
       let four = counted_from 35 r 4 (term r 5 ∷ []) five in
       let three = counted_from 36 r 3 (term r 4 ∷ term r 5 ∷ []) four in
       let two = counted_from 37 r 2 (term r 3 ∷ term r 4 ∷ term r 5 ∷ []) three in
-      let one : length (terms_from 39 r 1) ≡ prefix_len not_zero (later_terms r) = counted_from 38 r 1 (term r 2 ∷ term r 3 ∷ term r 4 ∷ term r 5 ∷ []) two in
+      let one : length (terms_from 39 r 1) ≡ prefix_len not_zero (later_terms r) =
+      counted_from 38 r 1 (term r 2 ∷ term r 3 ∷ term r 4 ∷ term r 5 ∷ []) two in
       rw is (omega (arith, one_more 39 r 0 (λ z. omega (arith, start r)), one))
 
 pub times_fits : (x r : ℕ) → x < 2 ^ 32 → r < 2 ^ 32 → x * r < 2 ^ 64

@@ -20,6 +20,7 @@ const STEP: u64 = ONE / 32;
 const FINE_ONE: u64 = 1 << 44;
 
 // N, from A, B and whether a crop covers the soil.
+#[tactic(auto, unfolding(crate::specs::Survival::rate_number))]
 pub fn rate_number(crop: bool, a: TenThousandths, b: TenThousandths) -> u64
     requires { (a.0 ≤ 83639) × (b.0 ≤ 10000) }
     ensures { result ≡ rate_number crop a.0 b.0 }
@@ -28,8 +29,9 @@ pub fn rate_number(crop: bool, a: TenThousandths, b: TenThousandths) -> u64
 }
 
 // w = N × K / 1,200,000,000,000 in parts of 2^37. N is divided first, in parts of 2^44, so that K's
-// product fits 64 bits. 1,200,000,000,000 is 2^13 × 146,484,375, and N × 2^31 fits too. N and K have
-// no types of their own, here and in the decay: they are only multiplied, here.
+// product fits 64 bits. 1,200,000,000,000 is 2^13 × 146,484,375, and N × 2^31 fits too. N and K
+// have no types of their own, here and in the decay: C hands N over as a number, K is one of four
+// constants, and a type would be opened at this one product.
 fn parts(n: u64, k: u64) -> u64
     requires { (n ≤ 8363900000) × (k ≤ 1000) }
     ensures { (result ≡ parts n 1200000000000 k) × (result < 240 * 2 ^ 32) }
@@ -46,8 +48,10 @@ fn next_term(term: u64, r: u64, k: u64) -> u64
     term * r / (ONE * k)
 }
 
-// Terms 1 to 5 of the series, for an r below 1/32. Term 0 is 1, and term 6 is 0. r has no type of
-// its own: it is p % STEP at both places where it is made, which shows the bound.
+// Terms 1 to 5 of the series, for an r below 1/32. Term 0 is 1, and term 6 is 0. They are an array,
+// as the library has no heap. r has no type of its own: it is p % STEP at both places where it is
+// made, which shows the bound.
+#[tactic(auto, using(crate::proofs::Steps::later_are))]
 fn later_terms(r: u64) -> [u64; 5]
     requires { r < 2 ^ 32 }
     ensures { result ≡ later_terms r }
@@ -78,7 +82,9 @@ fn term_count(r: u64) -> u64
 }
 
 // power × y / 2^39 to the nearest, halves up, for a y that is little less than 2^37. The whole
-// product would pass 64 bits; the power times what y is short of 2^37 does not.
+// product would pass 64 bits; the power times what y is short of 2^37 does not. It is rounded up by
+// hand: tried with div_ceil, with which a month's four numbers took 1.08 times as long.
+#[tactic(auto, using(crate::proofs::Steps::nearest_is))]
 fn nearest(power: u64, y: u64) -> u64
     requires { (power ≤ 4000000000) × (y ≤ 2 ^ 37) × (2 ^ 37 ≤ y + 2 ^ 32) }
     ensures { result ≡ (power * y + 2 ^ 38) / 2 ^ 39 }

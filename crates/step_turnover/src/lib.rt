@@ -12,7 +12,7 @@ use step_additions::Additions;
 use step_decay::{Shares, Turned, decay};
 use step_modern::{aged, modern_grams};
 
-// Decay, then the additions by the kind's shares. Put in place, as `decay` is.
+// Decay, then the additions by the kind's shares. Inlined, as `decay` is.
 #[tactic(auto, unfolding(crate::specs::Turnover::released))]
 #[inline(always)]
 pub fn turn_over(pools: [Grams; 4], shares: Shares, given: Additions) -> Turned

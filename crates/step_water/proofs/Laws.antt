@@ -3,8 +3,7 @@
 use mathlib.Core.Path.{◌≡◌, refl, ap, ◌∙◌}
 use mathlib.Core.Bool.{Bool, true, false}
 use Prim.Native.Nat.{ℕ, ◌+◌, ◌-◌, ◌*◌, ◌/◌, ◌<◌, ◌≤◌, min}
-use native.Mathlib.Nat.{mul-le-mul, mul-le-mul_left, min-le_right, le_trans, max-eq_left}
-use native.Mathlib.Nat.{div-lt_iff_lt-mul, div-eq_of_lt-le, mul-div_cancel_left}
+use native.Mathlib.Nat.{mul-le-mul, mul-le-mul_left, min-le_right, le_trans, max-eq_left, div-lt_iff_lt-mul, div-eq_of_lt-le, mul-div_cancel_left}
 use native.Mathlib.Omega.{arith}
 use native.Mathlib.Decide.{dec_le}
 use borrow.Author.Tests.{le-ltb, lt-ltb}

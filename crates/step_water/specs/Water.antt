@@ -1,7 +1,8 @@
 -- Water, step 3 of document 01: a month's soil moisture deficit, and the rate factor B that follows
 -- from it. Clay is in tenths of a percent, depth in cm, rain and evaporation in tenths of a
 -- millimetre, a deficit in parts.
-use Rattle.std.specs.Prelude.{ℕ, ◌+◌, ◌-◌, ◌*◌, ◌/◌, min, max, Bool, true, false, cond, ℤ, pos, negsuc, ◌+ℤ◌, ◌-ℤ◌, ltb}
+use Rattle.std.specs.Prelude.{ℕ, ◌+◌, ◌-◌, ◌*◌, ◌/◌, min, max, Bool, true, false, cond, ℤ, pos}
+use Rattle.std.specs.Prelude.{negsuc, ◌+ℤ◌, ◌-ℤ◌, ltb}
 use Rattle.step_water.specs.declared.Evaporation.{Evaporation}
 use Rattle.step_water.specs.declared.Evaporation.TheVariants.{OpenPan, Potential}
 

@@ -2,6 +2,8 @@
 // function is the definition of specs/Water.antt that its promise names. The bound 560,250,000 is
 // the largest M, at clay 650 and depth 100. M is in Parts and in no type with that bound of its
 // own: it is compared with deficits, and one of them is the cap, so that each use would unwrap it.
+// The 20,000 tenths are a bound of rain too, and stay a clause. M and D stay apart, as the papers'
+// formulas have them.
 #![tactic(auto)]
 
 ghost use Rattle.std.specs.Prelude.{◌≡◌, ◌*◌, ◌≤◌, ◌<◌};
@@ -12,6 +14,7 @@ ghost use Rattle.step_water.specs.Water.{halves_up, moisture_factor};
 use number_units::{Parts, TenThousandths};
 
 // M, the largest deficit that a soil of this clay and depth can have.
+#[tactic(auto, unfolding(crate::specs::Water::max_deficit))]
 pub fn max_deficit(clay: u64, depth: u64) -> Parts
     requires { (clay ≤ 1000) × (depth ≤ 100) }
     ensures { result.0 ≡ max_deficit clay depth }
@@ -20,6 +23,7 @@ pub fn max_deficit(clay: u64, depth: u64) -> Parts
 }
 
 // The bare limit, 5/9 of M.
+#[tactic(auto, unfolding(crate::specs::Water::bare_limit))]
 fn bare_limit(m: Parts) -> Parts
     requires { m.0 ≤ 560250000 }
     ensures { result.0 ≡ bare_limit m.0 }
@@ -57,6 +61,7 @@ fn drying(evaporation: Evaporation, rain: u64) -> i64
 }
 
 // The cap on the deficit after the month, d being the deficit before it.
+#[tactic(auto, unfolding(crate::specs::Water::deficit_cap))]
 fn deficit_cap(crop: bool, m: Parts, d: Parts) -> Parts
     requires { m.0 ≤ 560250000 }
     ensures { result.0 ≡ deficit_cap crop m.0 d.0 }
@@ -81,6 +86,7 @@ pub fn new_deficit(crop: bool, m: Parts, d: Parts, evaporation: Evaporation, rai
 }
 
 // n / d rounded to the nearest whole number, halves up.
+#[tactic(auto, unfolding(crate::specs::Water::halves_up))]
 fn halves_up(n: u64, d: u64) -> u64
     requires { (n ≤ 10000000000000000) × (0 < d) × (d ≤ 1000000000000) }
     ensures { result ≡ halves_up n d }

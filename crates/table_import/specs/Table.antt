@@ -8,7 +8,8 @@ use Rattle.month_refusals.specs.declared.RefusedAt.{RefusedAt}
 use Rattle.month_refusals.specs.Asked.{Asked, ◌if◌, Check, first_of, Placed, at, ◌on◌}
 use Rattle.list_rows.specs.Rows.{weather_width}
 use Rattle.book_digits.specs.Digits.{overwritten}
-use Rattle.book_rows.specs.Rows.{WeatherRow, as_weather, weather_gives, RowsEnd, RowsRead, read_rows}
+use Rattle.book_rows.specs.Rows.{WeatherRow, as_weather, weather_gives, RowsEnd, RowsRead}
+use Rattle.book_rows.specs.Rows.{read_rows}
 use Rattle.book_rows.specs.RowsAsked.{weather_asked_from}
 use Rattle.table_lines.specs.Lines.{table_line, line_count}
 

@@ -8,12 +8,15 @@ ghost use Rattle.book_rows.specs.Rows.{weather_gives};
 ghost use Rattle.table_import.specs.Table.{table_row, before_lines, table_asked, table_of};
 
 use book_rows::{RowLine, as_weather, read_rows};
-use list_rows::WEATHER_WIDTH;
+use list_rows::{ROWS_LIMIT, WEATHER_WIDTH, weather_numbers};
 use month_refusals::{Refusal, RefusedAt};
 use table_lines::{line_count, table_line};
 
 // A table's answer: how many rows it has, or why it is refused, and the line (0 for 3 and 8).
 pub type TableAnswer = Result<u64, RefusedAt>;
+
+// The source of a table's evaporation: potential evapotranspiration.
+const POTENTIAL: i64 = 1;
 
 // A line of a table: another form, or another month than the line's number, is 18.
 struct WeatherOfTable;
@@ -23,8 +26,8 @@ impl RowLine for WeatherOfTable {
 
     #[tactic(auto, using(crate::proofs::Laws::table_fits), unfolding(crate::specs::Table::table_row))]
     fn row(s: &[u8], place: usize, line: u64) -> Result<([i64; 4], usize), Refusal> {
-        let (w, next) = as_weather(Refusal::TableForm, 1, table_line(s, place, line))?;
-        Ok(([w.temperature, w.rain, w.evaporation, w.source], next))
+        let (w, next) = as_weather(Refusal::TableForm, POTENTIAL, table_line(s, place, line))?;
+        Ok((weather_numbers(w), next))
     }
 }
 
@@ -33,7 +36,7 @@ impl RowLine for WeatherOfTable {
 fn check_lines(lines: usize, room: usize) -> Result<(), Refusal>
     ensures { Finds (before_lines lines room) result }
 {
-    if !(1..=1200).contains(&lines) {
+    if !(1..=ROWS_LIMIT).contains(&lines) {
         return Err(Refusal::Rows);
     }
     if room < WEATHER_WIDTH * lines {
@@ -55,10 +58,9 @@ pub fn table(s: &[u8], out: &mut [i64]) -> TableAnswer
         (placed_found result) }
 {
     let lines = line_count(s);
-    if let Err(refusal) = check_lines(lines, out.len()) {
-        return Err(RefusedAt { refusal, place: 0 });
-    }
-    let mut rows = [0; WEATHER_WIDTH * 1200];
+    check_lines(lines, out.len()).map_err(|refusal| refusal.on(0))?;
+    // An array, since the library has no heap.
+    let mut rows = [0; WEATHER_WIDTH * ROWS_LIMIT];
     read_rows::<WeatherOfTable>(s, 0, 1, lines, &mut rows).ends?;
     let size = WEATHER_WIDTH * lines;
     out[..size].copy_from_slice(&rows[..size]);

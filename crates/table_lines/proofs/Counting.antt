@@ -2,7 +2,7 @@
 -- Assumes nothing.
 use Rattle.std.specs.Prelude.{None, Some, slice_get}
 use Rattle.std.proofs.lemmas.Option.{none-some, get_or_from_slice_get, slice_get-get_or}
-use Rattle.std.proofs.lemmas.List.Sums.{sum_by-cons, sum_by-append, count_by-le-length}
+use Rattle.std.proofs.lemmas.List.Sums.{sum_by-cons, sum_by-append, count_by-le-length, count_by_more_yes, count_by_more_no}
 use mathlib.Core.Path.{◌≡◌, refl, sym, ◌∙◌, ap}
 use mathlib.Core.Bool.{not, cond}
 use mathlib.Core.List.{List, [], ◌∷◌, ◌++◌, append-nil}
@@ -12,8 +12,8 @@ use native.Mathlib.Omega.{arith}
 use borrow.Author.Tests.{eq-eqb, ne_eqb, eqb-true, eqb-false}
 use lib.Dec.{eqb}
 use lib.IntN.{ℤ, pos, negsuc}
-use lib.ListN.{length, get_or, length-append}
-use lib.Seq.{get_or-append-add}
+use lib.ListN.{length, get_or, take, length-append}
+use lib.Seq.{get_or-append-add, length-take-le, take_all}
 use Rattle.book_digits.specs.Digits.{decimal, line_end}
 use Rattle.book_digits.proofs.Digits.{Digits, none, more, Form, form, decimal_small}
 use Rattle.book_values.proofs.Reading.{either}
@@ -54,18 +54,25 @@ ends-append xs ys = sum_by-append (λ x. cond (eqb x 10) 1 0) xs ys
 pub none_joined : (xs ys : List ℕ) → line_ends xs ≡ 0 → line_ends ys ≡ 0 → line_ends (xs ++ ys) ≡ 0
 none_joined xs ys e f = omega (arith, ends-append xs ys)
 
--- There are at most as many as bytes; fewer where a byte is another; and some where one is there.
+-- There are at most as many as bytes, and some where one is there.
 pub ends_most : (s : List ℕ) → line_ends s ≤ length s
 unfolding line_ends
 ends_most s = count_by-le-length (λ byte. eqb byte 10) s
 
-pub ends-fewer : (s : List ℕ) (k : ℕ) → k < length s → (get_or s k 10 ≡ 10 → ⊥) → line_ends s < length s
-ends-fewer [] k h e = absurd (omega arith)
-ends-fewer (byte ∷ s) zero h e = omega (arith, other_adds byte s e, ends_most s)
-ends-fewer (byte ∷ s) (suc k) h e = elim (is_end byte) [
-  | inl b ↦ omega (arith, end_adds byte s b, ends-fewer s k (omega arith) e)
-  | inr b ↦ omega (arith, other_adds byte s b, ends_most s)
-]
+-- Of the bytes before a place: there are at most as many, and the byte at the place adds one or none.
+pub ends_front : (s : List ℕ) (i : ℕ) → i ≤ length s → line_ends (take i s) ≤ i
+ends_front s i h = omega (arith, ends_most (take i s), length-take-le i s h)
+
+pub ends_one_more : (s : List ℕ) (i : ℕ) → i < length s → get_or s i 0 ≡ 10 → line_ends (take (i + 1) s) ≡ line_ends (take i s) + 1
+unfolding line_ends
+ends_one_more s i h e = count_by_more_yes (λ byte. eqb byte 10) s i 0 h (eq-eqb (get_or s i 0) 10 e)
+
+pub ends_no_more : (s : List ℕ) (i : ℕ) → i < length s → (get_or s i 0 ≡ 10 → ⊥) → line_ends (take (i + 1) s) ≡ line_ends (take i s)
+unfolding line_ends
+ends_no_more s i h e = count_by_more_no (λ byte. eqb byte 10) s i 0 h (ne_eqb (get_or s i 0) 10 e)
+
+pub ends_whole : (s : List ℕ) (i : ℕ) → length s ≤ i → line_ends (take i s) ≡ line_ends s
+ends_whole s i h = ap line_ends (take_all i s h)
 
 pub ends_some : (s : List ℕ) (k : ℕ) → k < length s → get_or s k 10 ≡ 10 → 0 < line_ends s
 ends_some [] k h e = absurd (omega arith)

@@ -13,8 +13,7 @@ use Rattle.book_digits.specs.Digits.{decimal}
 use Rattle.book_digits.proofs.Digits.{DigitByte}
 use Rattle.book_values.specs.Values.{is_digit, byte_is, read_value}
 use Rattle.book_values.proofs.Reading.{contrary, digit_true, digit_below, digit_byte, digit_within, byte_is_within}
-use Rattle.book_values.proofs.Texts.{byte_there, byte_at, byte_read, byte_round, after}
-use Rattle.book_values.proofs.Texts.{PartRead, byte_first, part_then, tested}
+use Rattle.book_values.proofs.Texts.{byte_there, byte_at, byte_read, byte_round, after, PartRead, byte_first, part_then, tested}
 use Rattle.book_values.proofs.Minus.{sign_round, sign_read}
 use Rattle.book_values.proofs.Laws.{ValueRead, value_read, value_round, no_minus}
 use Rattle.table_lines.specs.Lines.{with_tenth, read_tenths, read_signed_tenths, next_tenths, next_signed}

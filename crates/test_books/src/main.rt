@@ -5,6 +5,7 @@
 
 ghost use Rattle.std.specs.Prelude.{◌<◌, length, IfSome};
 
+use book_report::{OUTPUT_SIZE, report};
 use book_values::read_value;
 
 const STDIN_FILENO: i32 = 0;
@@ -14,8 +15,8 @@ const STDOUT_FILENO: i32 = 1;
 // Runs a book and writes its output. Answers whether it was written. The output is an array and a
 // length, as are the books: a Vec would add the kit's memory to what this program assumes.
 fn run_one(book: &[u8]) -> bool {
-    let mut out = [0u8; 204_800];
-    let written = book_report::report(book, &mut out);
+    let mut out = [0u8; OUTPUT_SIZE];
+    let written = report(book, &mut out);
     io::write_all(STDOUT_FILENO, &out[..written.length])
 }
 
@@ -29,7 +30,7 @@ fn first_book(books: &[u8]) -> Option<(&[u8], &[u8])>
     framed.split_at_checked(size as usize)
 }
 
-// Runs all framed books.
+// Runs all framed books, until none is left: nothing is counted.
 fn run_all(books: &[u8]) {
     let mut books = books;
     while let Some((book, rest)) = first_book(books) {
@@ -41,6 +42,7 @@ fn run_all(books: &[u8]) {
 }
 
 fn main() {
+    // More than the framed books of the tests. An array, as the output of each.
     let mut books = [0u8; 500_000];
     let length = io::read_full(STDIN_FILENO, &mut books);
     run_all(&books[..length]);

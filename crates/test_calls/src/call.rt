@@ -1,6 +1,17 @@
 // The calls. Each reads its line after the letter, and gives None, with nothing written, where the
 // line departs from the form. Lent memory that a call writes holds 7 everywhere before it, and so
 // does the memory of a state's kept ones where a line doesn't say it.
+//
+// A contract says the form of a line and what is left of the text after it, on every path. It says
+// no more: what is called and written is in no value that a function gives, and is held against the
+// reference's `stdout` when the program runs. All arrays here are of a fixed size, as the memory in
+// the C interface: a Vec's could fail, and would add to what this program assumes.
+ghost use Rattle.std.specs.Prelude.{◌≡◌, cond, Some, None, Bool, ℕ, option_map};
+ghost use Rattle.test_calls.specs.Calls.{state_read, start_line, month_line, take_back_line};
+ghost use Rattle.test_calls.specs.Calls.{survival_line, age_line, radiocarbon_line, series_line};
+ghost use Rattle.test_calls.specs.Calls.{list_takes, spin_up_takes, table_line, line_read};
+ghost use Rattle.test_calls.specs.Calls.{call_left};
+
 use library_calls::{
     rothc_age_survival, rothc_list, rothc_month, rothc_radiocarbon, rothc_spin_up, rothc_start,
     rothc_survival, rothc_survival_terms, rothc_table, rothc_take_back,
@@ -19,14 +30,21 @@ fn current(state: &Field) -> &[u64] {
 }
 
 // Reads the current state.
-fn read_state(reader: &mut Reader) -> Option<Field> {
+#[tactic(auto, unfolding(crate::specs::Calls::state_read))]
+fn read_state(reader: &mut Reader) -> Option<Field>
+    ensures { (option_map (λ _. tt) result, reader.new.left.now)
+        ≡ state_read reader.old.left.now }
+{
     let mut state = [7u64; FIELD_WIDTH];
     reader.numbers(&mut state[..STATE_WIDTH])?;
     Some(state)
 }
 
 // N: a soil's new state.
-fn start(reader: &mut Reader) -> Option<()> {
+#[tactic(auto, unfolding(crate::specs::Calls::start_line))]
+fn start(reader: &mut Reader) -> Option<()>
+    ensures { (result, reader.new.left.now) ≡ start_line reader.old.left.now }
+{
     let soil: [u64; SOIL_WIDTH] = reader.array()?;
     reader.line_end()?;
     let mut state = [7u64; FIELD_WIDTH];
@@ -36,7 +54,10 @@ fn start(reader: &mut Reader) -> Option<()> {
 }
 
 // M: a single month call.
-fn month(reader: &mut Reader) -> Option<()> {
+#[tactic(auto, unfolding(crate::specs::Calls::month_line))]
+fn month(reader: &mut Reader) -> Option<()>
+    ensures { (result, reader.new.left.now) ≡ month_line reader.old.left.now }
+{
     let mut state = read_state(reader)?;
     let number = reader.number()?;
     let entries: [i64; ENTRIES_WIDTH] = reader.array()?;
@@ -51,38 +72,57 @@ fn month(reader: &mut Reader) -> Option<()> {
     Some(())
 }
 
+// A call over weather, land, a number and a state.
+trait SeriesCall {
+    // Which numbers it takes.
+    ghost takes: { ℕ → Bool };
+
+    fn run(state: &mut Field, weather: &[i64], land: &[i64], number: u64) -> Option<()>
+        ensures { result ≡ cond (takes number) (Some tt) None };
+}
+
 // L: a list of months with an output of so many numbers.
-fn list(state: &mut Field, weather: &[i64], land: &[i64], size: u64) -> Option<()> {
-    let mut memory = [7u64; 8_500];
-    let rows = memory.get_mut(..size as usize)?;
-    let mut place = 7u64;
-    let number = rothc_list(state, weather, land, rows, &mut place);
-    Line::new()
-        .with(&[number, place])
-        .with(current(state))
-        .with(rows)
-        .end();
-    Some(())
+struct ListCall;
+
+impl SeriesCall for ListCall {
+    ghost takes = { list_takes };
+
+    fn run(state: &mut Field, weather: &[i64], land: &[i64], size: u64) -> Option<()> {
+        let mut memory = [7u64; 8_500];
+        let rows = memory.get_mut(..size as usize)?;
+        let mut place = 7u64;
+        let number = rothc_list(state, weather, land, rows, &mut place);
+        Line::new()
+            .with(&[number, place])
+            .with(current(state))
+            .with(rows)
+            .end();
+        Some(())
+    }
 }
 
 // S: a spin-up.
-fn spin_up(state: &mut Field, weather: &[i64], land: &[i64], years: u64) -> Option<()> {
-    let mut result = [7u64; 2];
-    let number = rothc_spin_up(state, weather, land, years, &mut result);
-    Line::new()
-        .with(&[number])
-        .with(&result)
-        .with(current(state))
-        .end();
-    Some(())
+struct SpinUpCall;
+
+impl SeriesCall for SpinUpCall {
+    ghost takes = { spin_up_takes };
+
+    fn run(state: &mut Field, weather: &[i64], land: &[i64], years: u64) -> Option<()> {
+        let mut result = [7u64; 2];
+        let number = rothc_spin_up(state, weather, land, years, &mut result);
+        Line::new()
+            .with(&[number])
+            .with(&result)
+            .with(current(state))
+            .end();
+        Some(())
+    }
 }
 
 // L and S: the weather, the land, a number and the state.
-fn series<F: FnOnce(&mut Field, &[i64], &[i64], u64) -> Option<()>>(
-    reader: &mut Reader,
-    run: F,
-) -> Option<()>
-    requires { F.IsAlwaysCallable run }
+#[tactic(auto, unfolding(crate::specs::Calls::series_line))]
+fn series<S: SeriesCall>(reader: &mut Reader) -> Option<()>
+    ensures { (result, reader.new.left.now) ≡ series_line S.takes reader.old.left.now }
 {
     let mut weather = [0i64; WEATHER_WIDTH * 1_250];
     let weather = reader.list(&mut weather)?;
@@ -91,7 +131,7 @@ fn series<F: FnOnce(&mut Field, &[i64], &[i64], u64) -> Option<()>>(
     let number = reader.number()?;
     let mut state = read_state(reader)?;
     reader.line_end()?;
-    run(&mut state, weather, land, number)
+    S::run(&mut state, weather, land, number)
 }
 
 // The places of kept states: each number of a place is the place's number more than the base's.
@@ -105,7 +145,10 @@ fn put_places(state: &mut Field, base: &[u64; KEPT_WIDTH]) {
 }
 
 // B: taking back.
-fn take_back(reader: &mut Reader) -> Option<()> {
+#[tactic(auto, unfolding(crate::specs::Calls::take_back_line))]
+fn take_back(reader: &mut Reader) -> Option<()>
+    ensures { (result, reader.new.left.now) ≡ take_back_line reader.old.left.now }
+{
     let mut state = read_state(reader)?;
     let base = reader.array()?;
     reader.line_end()?;
@@ -121,7 +164,10 @@ fn close(a: u64, b: u64) -> u64 {
 }
 
 // D: a survival number.
-fn survival(reader: &mut Reader) -> Option<()> {
+#[tactic(auto, unfolding(crate::specs::Calls::survival_line))]
+fn survival(reader: &mut Reader) -> Option<()>
+    ensures { (result, reader.new.left.now) ≡ survival_line reader.old.left.now }
+{
     let [n, pool, wanted] = reader.array::<u64, 3>()?;
     reader.line_end()?;
     let s = rothc_survival(n, pool);
@@ -130,7 +176,10 @@ fn survival(reader: &mut Reader) -> Option<()> {
 }
 
 // K: a survival number, whether it is the one of a `D` line's call, and how many terms were summed.
-fn survival_terms(reader: &mut Reader) -> Option<()> {
+#[tactic(auto, unfolding(crate::specs::Calls::survival_line))]
+fn survival_terms(reader: &mut Reader) -> Option<()>
+    ensures { (result, reader.new.left.now) ≡ survival_line reader.old.left.now }
+{
     let [n, pool, wanted] = reader.array::<u64, 3>()?;
     reader.line_end()?;
     let mut terms = 7u64;
@@ -143,7 +192,10 @@ fn survival_terms(reader: &mut Reader) -> Option<()> {
 }
 
 // R: a radiocarbon report.
-fn radiocarbon(reader: &mut Reader) -> Option<()> {
+#[tactic(auto, unfolding(crate::specs::Calls::radiocarbon_line))]
+fn radiocarbon(reader: &mut Reader) -> Option<()>
+    ensures { (result, reader.new.left.now) ≡ radiocarbon_line reader.old.left.now }
+{
     let state = read_state(reader)?;
     let pool = reader.number()?;
     reader.line_end()?;
@@ -154,7 +206,10 @@ fn radiocarbon(reader: &mut Reader) -> Option<()> {
 }
 
 // A: the survival number of an age.
-fn age_survival(reader: &mut Reader) -> Option<()> {
+#[tactic(auto, unfolding(crate::specs::Calls::age_line))]
+fn age_survival(reader: &mut Reader) -> Option<()>
+    ensures { (result, reader.new.left.now) ≡ age_line reader.old.left.now }
+{
     let [years, wanted] = reader.array::<u64, 2>()?;
     reader.line_end()?;
     let s = rothc_age_survival(years);
@@ -164,7 +219,10 @@ fn age_survival(reader: &mut Reader) -> Option<()> {
 
 // T: the output's length, the table's, and on the lines after this one the table itself and byte
 // 10.
-fn table(reader: &mut Reader) -> Option<()> {
+#[tactic(auto, unfolding(crate::specs::Calls::table_line))]
+fn table(reader: &mut Reader) -> Option<()>
+    ensures { (result, reader.new.left.now) ≡ table_line reader.old.left.now }
+{
     let room = reader.number::<u64>()?;
     let size = reader.number::<u64>()?;
     reader.line_end()?;
@@ -179,22 +237,34 @@ fn table(reader: &mut Reader) -> Option<()> {
     Some(())
 }
 
-// The call that a text begins with: what follows it.
-pub fn call(text: &[u8]) -> Option<&[u8]> {
-    let mut reader = Reader::new(text);
-    match reader.byte()? {
-        b'N' => start(&mut reader),
-        b'M' => month(&mut reader),
-        b'B' => take_back(&mut reader),
-        b'H' => history(&mut reader),
-        b'L' => series(&mut reader, list),
-        b'S' => series(&mut reader, spin_up),
-        b'D' => survival(&mut reader),
-        b'K' => survival_terms(&mut reader),
-        b'R' => radiocarbon(&mut reader),
-        b'A' => age_survival(&mut reader),
-        b'T' => table(&mut reader),
+// The line after its letter. A letter stays one: an enum would be made of it and matched again.
+#[tactic(auto, unfolding(crate::specs::Calls::line_read))]
+fn line(letter: u8, reader: &mut Reader) -> Option<()>
+    ensures { (result, reader.new.left.now) ≡ line_read letter reader.old.left.now }
+{
+    match letter {
+        b'N' => start(reader),
+        b'M' => month(reader),
+        b'B' => take_back(reader),
+        b'H' => history(reader),
+        b'L' => series::<ListCall>(reader),
+        b'S' => series::<SpinUpCall>(reader),
+        b'D' => survival(reader),
+        b'K' => survival_terms(reader),
+        b'R' => radiocarbon(reader),
+        b'A' => age_survival(reader),
+        b'T' => table(reader),
         _ => None,
-    }?;
+    }
+}
+
+// The call that a text begins with: what follows it.
+#[tactic(auto, unfolding(crate::specs::Calls::call_left))]
+pub fn call(text: &[u8]) -> Option<&[u8]>
+    ensures { option_map (λ left. left.now) result ≡ call_left text.now }
+{
+    let mut reader = Reader::new(text);
+    let letter = reader.byte()?;
+    line(letter, &mut reader)?;
     Some(reader.left)
 }

@@ -11,8 +11,8 @@ use test_lines::fault;
 
 const STDIN_FILENO: i32 = 0;
 
-// The calls of a text in turn. One that departs from the form ends the run, as one would that took
-// nothing of the text.
+// The calls of a text in turn, until none is left: nothing is counted. One that departs from the
+// form ends the run, as one would that took nothing of the text.
 fn calls(text: &[u8]) {
     let mut left = text;
     while !left.is_empty() {

@@ -1,5 +1,6 @@
 -- `book_rows::read_rows` meets its contract.
 -- Assumes nothing.
+use Rattle.std.specs.Prelude.{Err}
 use mathlib.Core.Path.{◌≡◌, sym, ◌∙◌, ap}
 use Prim.Native.Nat.{ℕ, ◌*◌}
 use native.Mathlib.Omega.{arith}
@@ -18,7 +19,7 @@ loop-i-preserved g c =
 pub returns-in-Err : goal.returns-in-Err
 returns-in-Err g c =
     let ended = ends-refused c.loop-i.invariant c.loop-i-test.true (sym c.row.ensures ∙ ap row_gives c.in-Err.is) in
-    record { rows = ended.0; ends = ended.1.0; numbers = ended.1.1 }
+    record { rows = ended.0; ends = ap Err c.on.ensures ∙ ended.1.0; numbers = ended.1.1 }
 
 pub returns : goal.returns
 returns g c =

@@ -3,13 +3,15 @@
 use mathlib.Core.Path.{◌∙◌}
 use Rattle.std.proofs.Common.{arith}
 use Rattle.std.proofs.lemmas.Grind.{common_steps}
+use Rattle.month_refusals.proofs.First.{left_by}
 use Rattle.library_month.proofs.Laws.{first_read, field_joined}
 use Rattle.library_back.specs.Calls.{rothc_take_back}
 use Rattle.library_back.proofs.take_back.Goals as goal
 
-pub returns-in-Err : goal.returns-in-Err
+pub returns-in_err-outcome : goal.returns-in_err-outcome
 unfolding rothc_take_back
-returns-in-Err c =
+returns-in_err-outcome c =
     let split = c.in-Some.ensures.cases in
     let memory = c.in-Some-as_mut_array.ensures.cases in
-    rw (field_joined c.args.state.now split.0 (memory.same ∙ split.1)) (grind (arith, common_steps, first_read))
+    rw (left_by c.from_residual.result c.from_residual.ensures.1, field_joined c.args.state.now split.0 (memory.same ∙ split.1))
+    (grind (arith, common_steps, first_read))

@@ -3,4 +3,4 @@
 use Rattle.library_radiocarbon.proofs.radiocarbon.Goals as goal
 
 pub report_numbers-requires : goal.report_numbers-requires
-report_numbers-requires c = λ y is. ((c.report.ensures.age.age _ c.in-Ok.is).years y is).within
+report_numbers-requires c = λ y is. ((c.report.ensures.age.age _ c.in_ok-given.was).years y is).within

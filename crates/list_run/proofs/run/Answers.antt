@@ -35,10 +35,11 @@ unfolding kept_months
 returns-in-Err c =
     let a = c.args in
     let is = refuses_run a.s a.weather.now a.land.now a.out.now (sym c.check_list.ensures.first ∙ c.in-Err.is) in
-    record {
+    rw c.on.ensures
+    (record {
       left = is;
       kept = refl;
       field = left_field _ _ _ _ is a.memory.now;
       told = left_told _ _ _ _ is;
       exactly = left_exactly _ _ _ _ is;
-    }
+    })

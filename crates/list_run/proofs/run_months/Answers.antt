@@ -25,18 +25,18 @@ loop-j-preserved c =
     }
 
 -- A month that is refused ends the list, and those before it are kept.
-pub returns-in_default : goal.returns-in_default
-returns-in_default c =
+pub returns-in-Err : goal.returns-in-Err
+returns-in-Err c =
     let a = c.args in
     let l = c.loop-j in
     let is = c.list_month-month.ensures ∙ ap (list_month l.state.state) c.entries_at.ensures in
     let ran : l.j + 1 - 1 ≡ l.j = omega arith in
     record {
       left =
-          rw (c.ended.ensures, c.in_default.is)
-          (month_last a.weather.now a.land.now l.state.state l.out c.loop-j-test.true is c.in_default.is l.invariant.whole);
+          rw c.on.ensures
+          (month_last a.weather.now a.land.now l.state.state l.out c.loop-j-test.true is c.in-Err.is l.invariant.whole);
       kept =
-          rw (c.ended.ensures, c.in_default.is)
+          rw c.on.ensures
           (kept_now a.weather.now a.land.now l.state.state
           (λ n. kept_months n a.weather.now a.land.now 0 a.s.state a.memory.now) ran l.invariant.kept);
     }

@@ -9,6 +9,7 @@ use Rattle.month_state.specs.declared.State.{State}
 use Rattle.month_state.specs.declared.Entries.{Entries}
 use Rattle.month_refusals.proofs.Accepted.{sound-state, ready, entries-parts}
 use Rattle.month_call.specs.Month.{rate_after, pools_after, gas_of, modern_after, next_deficit, next_rate, steps_of}
+use Rattle.month_checks.proofs.Checked.{natural_asked, natural_in_range}
 use Rattle.month_call.proofs.Steps.{deficit-most, state_rate_most}
 use Rattle.month_call.proofs.run_steps.Goals as goal
 
@@ -52,8 +53,18 @@ unwrap-kind-requires c =
     let soil = (sound-state c.args.s c.requires.state).soil in
     number-has_kind c.try_from.result c.try_from.ensures soil.first_kind soil.last_kind
 
-pub additions_of-activity-requires : goal.additions_of-activity-requires
-additions_of-activity-requires c = (entries-parts c.args.s c.args.e c.requires.entries).land
+pub additions_of-given-requires : goal.additions_of-given-requires
+additions_of-given-requires c = (entries-parts c.args.s c.args.e c.requires.entries).land
+
+pub natural-activity-requires : goal.natural-activity-requires
+natural-activity-requires c =
+    natural_asked (omega arith) (ready c.args.s c.args.e c.requires.entries).land.activity
+
+pub turn_both-turned-requires-clause-given : goal.turn_both-turned-requires-clause-given
+turn_both-turned-requires-clause-given c =
+    let given = c.additions_of-given.ensures in
+    let land = (ready c.args.s c.args.e c.requires.entries).land in
+    (given.plant.1, given.manure.1, (natural_in_range (omega arith) c.natural-activity.ensures land.activity).1)
 
 pub invariant_of-shares : goal.invariant_of-shares
 invariant_of-shares c =
@@ -70,12 +81,14 @@ returns c =
     let rate = rate-is c.args.s c.args.e c.rate_after-n.ensures c.deficit_after-deficit.ensures in
     let is = c.survivals-survival.ensures.0 ∙ ap survivals rate in
     let clay = c.clay_number-r.ensures.0 in
-    let given = c.additions_of-activity.ensures in
+    let given = c.additions_of-given.ensures in
+    let land = (ready c.args.s c.args.e c.requires.entries).land in
+    let activity = natural_in_range (omega arith) c.natural-activity.ensures land.activity in
     let kind = ap kind_number given.kind ∙ number-of_kind c.try_from.ensures c.unwrap-kind.ensures in
     let t = c.turn_both-turned.ensures in
     let pools = t.pools ∙ rw (is, clay, kind, given.plant.0, given.manure.0) in
     let co2 = t.co2 ∙ rw (is, clay) in
-    let modern = t.modern ∙ rw (is, clay, kind, given.plant.0, given.manure.0, given.activity.0) in
+    let modern = t.modern ∙ rw (is, clay, kind, given.plant.0, given.manure.0, activity.0) in
     let deficit = c.deficit_after-deficit.ensures in
     λ i. record {
       pools = pools i;

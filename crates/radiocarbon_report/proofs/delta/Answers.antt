@@ -21,7 +21,7 @@ quotient_fits modern carbon most pos-carbon =
     record { sfits = omega (arith, le, most) }
 
 pub overflow_cast-result : goal.overflow_cast-result
-overflow_cast-result c = quotient_fits c.args.modern c.args.carbon c.requires.0 c.requires.1
+overflow_cast-result c = quotient_fits c.args.share.modern c.args.share.carbon c.requires.0 c.requires.1
 
 pub overflow_sub-result : goal.overflow_sub-result
 overflow_sub-result c =

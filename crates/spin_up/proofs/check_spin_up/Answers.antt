@@ -1,7 +1,7 @@
 -- `spin_up::check_spin_up` meets its contract: 3, 4 to 7, then 9 and 10.
 -- Assumes nothing.
 use Rattle.std.proofs.Common.{arith}
-use Rattle.std.proofs.lemmas.Result.{err_from_is_err_and}
+use Rattle.month_refusals.proofs.First.{left_by}
 use Rattle.spin_up.proofs.Laws.{weather_refused, land_refused, soil_refused, years_refused, bounds_found}
 use Rattle.spin_up.proofs.check_spin_up.Goals as goal
 use Rattle.spin_up.proofs.check_spin_up.Goals.{then-weather-via-then-weather, then-weather-via-else-weather+then-land}
@@ -14,8 +14,7 @@ returns-then-weather c = elim c.then-weather.branch [
 
 pub returns-in_err-check_soil : goal.returns-in_err-check_soil
 returns-in_err-check_soil c =
-    let p = err_from_is_err_and c.from_residual.result c.from_residual.ensures.1 in
-    rw (p.1, p.2)
+    rw (left_by c.from_residual.result c.from_residual.ensures.1)
     (soil_refused _ _ _ _ c.if-weather.false c.if-land.false c.check_soil.ensures c.in_err-check_soil.was)
 
 pub returns-in-1-to-10000 : goal.returns-in-1-to-10000

@@ -4,8 +4,8 @@ use Rattle.std.proofs.Common.{sym, ◌∙◌, arith}
 use Rattle.spin_up.proofs.Laws.{year_refused, year_within, year_settled, year_more, none_more}
 use Rattle.spin_up.proofs.run_years.Goals as goal
 
-pub overflow_add-place : goal.overflow_add-place
-overflow_add-place c =
+pub overflow_add-before : goal.overflow_add-before
+overflow_add-before c =
     let a = c.args in
     let l = c.loop-before in
     omega (
@@ -17,7 +17,8 @@ pub returns-in-Err : goal.returns-in-Err
 returns-in-Err c =
     let a = c.args in
     let l = c.loop-before in
-    year_refused a.weather.now a.land.now a.s.state l.state.state c.loop-before-test.true c.year-ran.ensures l.invariant c.in-Err.is
+    rw c.on.ensures
+    (year_refused a.weather.now a.land.now a.s.state l.state.state c.loop-before-test.true c.year-ran.ensures l.invariant c.in-Err.is)
 
 pub returns-then-settles : goal.returns-then-settles
 returns-then-settles c =

@@ -11,5 +11,9 @@ use Rattle.step_survival.proofs.term_count.Goals as goal
 pub returns : goal.returns
 returns c =
     let later = c.later_terms-later.result in
-    let count = count_from_yields_List c.take_while.result _ c.count.ensures.ran (YieldsList-from_take_while _ not_zero (YieldsList-from_slice later (cc)) c.take_while.ensures.closure c.take_while.ensures.done (λ x b q k. search (rules, tests))) ∙ length-prefix_len not_zero later in
+    let count =
+    count_from_yields_List c.take_while.result _ c.count.ensures.ran
+    (YieldsList-from_take_while _ not_zero (YieldsList-from_slice later (cc)) c.take_while.ensures.closure c.take_while.ensures.done
+    (λ x b q k. search (rules, tests)))
+    ∙ length-prefix_len not_zero later in
     ap (λ (n : ℕ). 1 + n) count ∙ count_is c.args.r c.requires c.later_terms-later.ensures
