@@ -114,6 +114,7 @@ fn check_spin_up(s: State, weather: &[i64], land: &[i64], allowed: u64) -> Resul
 
 // A spin-up of at most the years that are allowed. The state is that after the years run, with none
 // kept unless it is refused, and each refusal is given exactly where it is the first that applies.
+// Not one with a list's `run`: what is asked before the months differs, in the papers' order.
 pub fn spin_up(s: State, weather: &[i64], land: &[i64], allowed: u64) -> Outcome<SpinAnswer, State>
     ensures outcome { result ≡ spin_up s weather.now land.now allowed }
     ensures told { placed_told result.answer

@@ -1,3 +1,4 @@
+-- `Line::put_all` meets its contract: each byte is put after those before it.
 use Rattle.std.proofs.Common.{◌∙◌, sym}
 use Rattle.test_lines.proofs.Bytes.{one_byte, all_bytes}
 use Rattle.test_lines.proofs.Line.put_all.Goals as goal
