@@ -9,8 +9,8 @@ ghost use Rattle.book_lines.specs.Lines.{soil_line, weather_line, land_line};
 
 use book_values::{past, read_signed, read_value};
 
-// A soil's eight numbers, as its line has them: the kind too is the number that was read. No `Soil`:
-// a line's form rests on nothing of the month.
+// A soil's eight numbers, as its line has them: the kind too is the number that was read. No
+// `Soil`: a line's form rests on nothing of the month.
 #[derive(Clone, Copy, PartialEq, Eq)]
 pub struct SoilNumbers {
     pub clay: u64,

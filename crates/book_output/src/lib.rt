@@ -11,9 +11,9 @@ ghost use Rattle.book_output.specs.Text.{HasRoom, Added};
 
 use book_digits::{write_bytes, write_decimal};
 
-// A text on its way into a lent slice, from the slice's start: so far it has `len` bytes. There is no
-// heap for a String, and what std's Display puts is promised only where it says that it did. `most`
-// bounds what each method adds, whose text `added` gives; the room is counted by it.
+// A text on its way into a lent slice, from the slice's start: so far it has `len` bytes. There is
+// no heap for a String, and what std's Display puts is promised only where it says that it did.
+// `most` bounds what each method adds, whose text `added` gives; the room is counted by it.
 #[derive(Drop)]
 struct Text<'a> {
     out: &'a mut [u8],

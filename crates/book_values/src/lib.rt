@@ -1,7 +1,8 @@
 // The values of document 01's book, read at a place of a byte slice, each with the place after it.
 // specs/Values.antt says what each function gives. A text and its place stay two parameters, also
-// in the crates above: the papers' definitions go by places of one text, and so do the laws by which
-// what was written is read back. (The tests' reader, of which no such law speaks, is a struct.)
+// in the crates above: the papers' definitions go by places of one text, and so do the laws by
+// which what was written is read back. (The tests' reader, of which no such law speaks, is a
+// struct.)
 #![tactic(auto)]
 
 ghost use Rattle.std.specs.Prelude.{◌≡◌, cond, ℕ, ◌^◌, ◌≤◌, ◌<◌, length};

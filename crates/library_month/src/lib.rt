@@ -83,8 +83,8 @@ pub fn month(state: &mut [u64], number: u64, entries: &[i64], row: &mut [u64]) -
     }
     // A field is the current state's numbers and the memory, and nothing after them. Each call
     // takes it apart itself, as do those of library_back and library_list. A `field_parts` that
-    // gives both parts as two `&mut` in an Option was tried: the goal of every exit was false, since
-    // the memory is reached in two steps.
+    // gives both parts as two `&mut` in an Option was tried: the goal of every exit was false,
+    // since the memory is reached in two steps.
     let Some((current, rest)) = state.split_first_chunk_mut::<STATE_WIDTH>() else {
         return Err(CallRefusal::Shape);
     };

@@ -26,8 +26,8 @@ use step_water::{Evaporation, max_deficit, moisture_factor, new_deficit};
 pub type Answer = Result<Row, Refusal>;
 
 // What steps 1 to 6 give: the pools after the month, its CO2, the new deficit, and the modern grams
-// after it. They are fields as in the row and the state: a `TurnedBoth` in here would be taken apart
-// where both are built.
+// after it. They are fields as in the row and the state: a `TurnedBoth` in here would be taken
+// apart where both are built.
 #[derive(Clone, Copy)]
 struct AfterSteps {
     pools: [Grams; 4],
@@ -165,9 +165,8 @@ fn done(s: State, after: AfterSteps) -> Outcome<Answer, State>
 }
 
 // The single month call: the next state, or after a refusal the one that was given, which need not
-// pass its checks, so that `list_month` is no part of it. State, number and entries stay apart, here
-// and above, as the papers' call has them. The answer's
-// number and place are the papers'.
+// pass its checks, so that `list_month` is no part of it. State, number and entries stay apart,
+// here and above, as the papers' call has them. The answer's number and place are the papers'.
 pub fn month(s: State, number: u64, e: Entries) -> Outcome<Answer, State>
     ensures outcome { result ≡ month_call s number e }
     ensures told { answer_told result.answer ≡ told (at 0 (month_asked s number e)) }

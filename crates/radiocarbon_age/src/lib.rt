@@ -19,7 +19,8 @@ pub enum Age {
     Newer,
 }
 
-// So many modern grams in so much carbon, which is at most 2,000,000,000, as in a state that passes.
+// So many modern grams in so much carbon, which is at most 2,000,000,000, as in a state that
+// passes.
 #[derive(Clone, Copy)]
 pub struct ModernShare {
     pub modern: u64,

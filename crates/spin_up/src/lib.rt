@@ -97,8 +97,8 @@ fn run_years(
     }
 }
 
-// 3, 4 to 7, 9 and 10: a spin-up before its years. Not one with a list's: what is asked beside 4 to 7
-// and 10 is another thing there, and stands between them in the papers' order.
+// 3, 4 to 7, 9 and 10: a spin-up before its years. Not one with a list's: what is asked beside 4 to
+// 7 and 10 is another thing there, and stands between them in the papers' order.
 fn check_spin_up(s: State, weather: &[i64], land: &[i64], allowed: u64) -> Result<(), Refusal>
     ensures { Finds (before_years s weather.now land.now allowed) result }
 {

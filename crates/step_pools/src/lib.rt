@@ -1,6 +1,6 @@
 // Grams shared and added: a share of them rounded down, and the sum of four pools, or of their
-// losses, by value. Four pools are an array, here and above, in the papers' order: the steps go over
-// them alike, and a struct of four fields would say each step four times.
+// losses, by value. Four pools are an array, here and above, in the papers' order: the steps go
+// over them alike, and a struct of four fields would say each step four times.
 #![tactic(auto)]
 
 ghost use Rattle.std.specs.Prelude.{◌≡◌, ◌≤◌, ◌<◌, ◌^◌};

@@ -32,8 +32,8 @@ fn read_signed_tenths(s: &[u8], at: usize) -> Option<(i64, usize)>
     }
 }
 
-// A semicolon, and the number after it. This, the next and the book's `spaced_value` are a line each;
-// one for all would take the byte and the reading.
+// A semicolon, and the number after it. This, the next and the book's `spaced_value` are a line
+// each; one for all would take the byte and the reading.
 #[tactic(auto, unfolding(crate::specs::Lines::next_tenths, book_values::specs::Values::past))]
 fn next_tenths(s: &[u8], at: usize) -> Option<(u64, usize)>
     ensures { result ≡ next_tenths s.now at }
