@@ -1,3 +1,4 @@
 pub mod Laws
 pub mod Refusals
 pub mod Reached
+pub mod Settled

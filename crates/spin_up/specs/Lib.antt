@@ -1,2 +1,3 @@
 pub mod SpinUp
 pub mod Reached
+pub mod Settled

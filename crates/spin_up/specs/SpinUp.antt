@@ -1,7 +1,9 @@
--- Spin-up of document 01, and what it asks: 3, 4 to 7, 9 and 10 with place 0, then month by month
--- what a month's entries are asked.
+-- Spin-up of document 01, its years as document 02 has them settle (change 2026-05), and what it
+-- asks: 3, 4 to 7, 9 and 10 with place 0, then month by month what a month's entries are asked.
 use Rattle.std.specs.Prelude.{Result, Ok, Err, Bool, true, false, not, cond, ◌&&◌, ◌||◌, List, []}
 use Rattle.std.specs.Prelude.{◌∷◌, ◌++◌, ℕ, zero, suc, ◌+◌, ◌*◌, leb, ltb, eqb, ℤ, length}
+use Rattle.step_pools.specs.Pools.{grams_at}
+use Rattle.month_state.specs.declared.Soil.{Soil}
 use Rattle.month_state.specs.declared.State.{State}
 use Rattle.month_state.specs.State.{five_pools, kept_aside}
 use Rattle.list_rows.specs.Rows.{weather_width, land_width}
@@ -21,10 +23,27 @@ SpinAnswer = Result Years RefusedAt
 
 -- ---- the years
 
--- A year settles where its end total is at most 1,000 g from the total at its start, either way.
+-- At most 1,000 g from where the year began, either way.
+abbrev pub near : ℕ → ℕ → Bool
+near start end = leb end (start + 1000) && leb start (end + 1000)
+
+-- The total, from a year's start to its end.
+abbrev pub total_settles : State → State → Bool
+total_settles start end = near (five_pools start) (five_pools end)
+
+-- Each of the five pools: DPM, RPM, BIO and HUM, and IOM.
+unfoldable pub pools_settle : Soil → Soil → Bool
+pools_settle start end =
+    near (grams_at start.pools 0) (grams_at end.pools 0)
+    && near (grams_at start.pools 1) (grams_at end.pools 1)
+    && near (grams_at start.pools 2) (grams_at end.pools 2)
+    && near (grams_at start.pools 3) (grams_at end.pools 3)
+    && near start.iom.0 end.iom.0
+
+-- "A year now settles exactly when the total, as before, and each of the five pools are at most
+-- 1,000 g from where that year began" (change 2026-05).
 unfoldable pub settles : State → State → Bool
-settles start end =
-    leb (five_pools end) (five_pools start + 1000) && leb (five_pools start) (five_pools end + 1000)
+settles start end = total_settles start end && pools_settle start.soil end.soil
 
 -- A year's twelve months. No row is kept: nothing is written to an output of no numbers.
 unfoldable pub year_outcome : List ℤ → List ℤ → State → Outcome ListAnswer State

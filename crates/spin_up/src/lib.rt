@@ -1,11 +1,11 @@
 // Spin-up of document 01: twelve weather and twelve land rows repeated for up to a given number of
-// years, until a year settles.
+// years, until a year settles, as document 02 has it (change 2026-05).
 #![tactic(auto)]
 
 ghost use Rattle.std.specs.Prelude.{◌≡◌, ◌≤◌};
 ghost use Rattle.month_state.specs.State.{kept_aside};
 ghost use Rattle.month_refusals.specs.Asked.{Finds, told, Exactly, placed_found, placed_told};
-ghost use Rattle.spin_up.specs.SpinUp.{settles, year_outcome, years};
+ghost use Rattle.spin_up.specs.SpinUp.{near, pools_settle, settles, year_outcome, years};
 ghost use Rattle.spin_up.specs.SpinUp.{before_years, spin_asked, spin_up, spin_years, spin_end};
 ghost use Rattle.spin_up.specs.Reached.{after_years};
 
@@ -13,7 +13,8 @@ use list_rows::{LAND_WIDTH, ROW_WIDTH, WEATHER_WIDTH};
 use list_run::{ListAnswer, run_months};
 use month_layouts::MEMORY_WIDTH;
 use month_refusals::{CheckedState, Refusal, RefusedAt, check_bounds, check_soil};
-use month_state::{Outcome, State, five_pools};
+use month_state::{Outcome, Soil, State, five_pools};
+use number_units::Grams;
 
 // The years of a spin-up: settled with the years run, or unsettled with the years allowed.
 #[derive(Clone, Copy, PartialEq, Eq)]
@@ -27,14 +28,36 @@ pub enum Years {
 // state.
 pub type SpinAnswer = Result<Years, RefusedAt>;
 
-// Whether a year settles, from its start to its end.
+// Whether grams at a year's end are at most 1,000 from those that it began with.
+fn near(start: Grams, end: Grams) -> bool
+    ensures { result ≡ near start.0 end.0 }
+{
+    start.0.abs_diff(end.0) <= 1000
+}
+
+// Whether each of the five pools settles, from a year's start to its end.
+#[tactic(auto, unfolding(crate::specs::SpinUp::pools_settle))]
+fn pools_settle(start: Soil, end: Soil) -> bool
+    ensures { result ≡ pools_settle start end }
+{
+    let [dpm, rpm, bio, hum] = start.pools;
+    let [end_dpm, end_rpm, end_bio, end_hum] = end.pools;
+    near(dpm, end_dpm)
+        && near(rpm, end_rpm)
+        && near(bio, end_bio)
+        && near(hum, end_hum)
+        && near(start.iom, end.iom)
+}
+
+// Whether a year settles, from its start to its end. It is asked once in twelve months: in line, it
+// made the loop's function longer and nothing faster.
+#[inline(never)]
 #[tactic(auto, using(crate::proofs::Laws::small), unfolding(crate::specs::SpinUp::settles))]
 fn settles(start: CheckedState, end: CheckedState) -> bool
     ensures { result ≡ settles start.state end.state }
 {
-    let before = five_pools(start.state).0;
-    let after = five_pools(end.state).0;
-    before.abs_diff(after) <= 1000
+    let total = near(five_pools(start.state), five_pools(end.state));
+    total && pools_settle(start.state.soil, end.state.soil)
 }
 
 // The numbers of twelve weather rows, and of twelve land rows.
