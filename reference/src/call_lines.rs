@@ -16,9 +16,12 @@ use crate::exponential::{
     STEP_PARTS,
 };
 use crate::fixed::keeps_fixed;
+use crate::light::{hoosfield, Known};
+use crate::measured;
 use crate::model::{
-    added, brought, decayed, factors, kept, month_left, split_manure, split_plant, Nearest,
-    LAND_NUMBERS, OUTPUT_NUMBERS, RATES, WEATHER_NUMBERS,
+    added, brought, decayed, factors, kept, month_left, pools_settle, split_manure, split_plant,
+    total_settles, year_settles, Nearest, Soil, Survival, LAND_NUMBERS, OUTPUT_NUMBERS, RATES,
+    WEATHER_NUMBERS,
 };
 use crate::table;
 use crate::vectors::Draw;
@@ -102,10 +105,14 @@ impl Sheet {
         assert_eq!(given, place, "{}", call.line());
     }
 
+    fn last(&self) -> &Line {
+        let group = self.groups.last().expect("a group");
+        group.lines.last().expect("a line")
+    }
+
     /// The answer to the last line.
     fn answer(&self) -> &[u64] {
-        let group = self.groups.last().expect("a group");
-        &group.lines.last().expect("a line").answer
+        &self.last().answer
     }
 
     /// Calls that run and have the same answer.
@@ -164,6 +171,14 @@ pub fn groups() -> Vec<Group> {
     list_modern_limit(&mut sheet);
     spin_outside(&mut sheet);
     spin_years(&mut sheet);
+    spin_pools(&mut sheet);
+    spin_totals(&mut sheet);
+    spin_against(&mut sheet);
+    spin_pools_later(&mut sheet);
+    spin_total_later(&mut sheet);
+    spin_first_year(&mut sheet);
+    spin_beside_pools(&mut sheet);
+    spin_light(&mut sheet);
     spin_places(&mut sheet);
     spin_drawn(&mut sheet);
     spin_sources(&mut sheet);
@@ -2104,14 +2119,16 @@ fn spin_outside(sheet: &mut Sheet) {
     }
 }
 
-/// Settled in the first year, later, and not at all: the years run and the state reached.
+/// A spin-up that ends settled (1) or unsettled (0) after so many years.
+fn settled(sheet: &mut Sheet, is: u64, years: u64, call: Call) {
+    sheet.runs(call);
+    assert_eq!(sheet.answer()[1..3], [is, years]);
+}
+
+/// Settled in the first year and not at all, by frost: the years run and the state reached.
 fn spin_years(sheet: &mut Sheet) {
-    sheet.group("S: settled at 1,000 g and not at 1,001 g, up and down; years 1, 2, 10,000");
+    sheet.group("S: settled at 1,000 g more and not at 1,001 g; years 1, 2, 10,000");
     let weather = rows(COLD, 12);
-    let settled = |sheet: &mut Sheet, is: u64, years: u64, call: Call| {
-        sheet.runs(call);
-        assert_eq!(sheet.answer()[1..3], [is, years]);
-    };
     for years in [1, 2, 3, 10_000] {
         // Nothing changes, and 1,000 g more: settled after one year.
         for plant in [0, 999, 1_000] {
@@ -2147,42 +2164,496 @@ fn spin_years(sheet: &mut Sheet) {
     let mut more = spread.clone();
     more[11 * 4 + 2] += 1;
     settled(sheet, 0, 9, spin(&weather, &more, 9, STATE));
-    // One warm month decays, eleven are frozen: the year's fall is its CO2 less the plant, which
-    // comes after decay. Falls of 1,000 and 1,001.
-    let warm = [&[200, 500, 300, 0], &weather[4..]].concat();
-    for seed in 0..3u64 {
-        let state = changed(fresh(), &pools([9_000 + seed * 777, 20_000, 3_000, 40_000]));
-        let (answer, _) = spin(&warm, &first_month(0), 1, state).fixed_answer();
-        let co2 = answer[3 + CO2] as i64;
-        assert!(co2 > 1_001);
-        settled(
-            sheet,
-            1,
-            1,
-            spin(&warm, &first_month(co2 - 1_000), 1, state),
-        );
-        settled(
-            sheet,
-            0,
-            1,
-            spin(&warm, &first_month(co2 - 1_001), 1, state),
-        );
-        settled(
-            sheet,
-            1,
-            1,
-            spin(&warm, &first_month(co2 + 1_000), 7, state),
-        );
-        settled(
-            sheet,
-            0,
-            1,
-            spin(&warm, &first_month(co2 + 1_001), 1, state),
-        );
+}
+
+/// No crop and no additions.
+const FALLOW: LandRow = [0, 0, 0, 0];
+
+/// Twelve fallow rows, but for months (from 1) with plant and manure.
+fn bringing(months: &[(usize, i64, i64)]) -> Vec<i64> {
+    let mut land = rows(FALLOW, 12);
+    for (month, plant, manure) in months {
+        let row = &mut land[(month - 1) * LAND_NUMBERS..month * LAND_NUMBERS];
+        row[1..].copy_from_slice(&[*plant, *manure, 1_000]);
     }
-    // IOM stands in the total and doesn't move; CO2 and deficit don't count.
-    let inert = changed(STATE, &[(INERT, CEILING)]);
-    settled(sheet, 1, 1, spin(&weather, &first_month(1_000), 3, inert));
+    land
+}
+
+/// A spin-up of a year with one warm month, its first, and eleven frozen ones, on the small soil
+/// of this kind, from pools that its first year changes by so many grams, where there are such.
+fn changing_if_any(
+    kind: u64,
+    warm: WeatherRow,
+    land: &[i64],
+    changes: [i64; 4],
+    years: u64,
+) -> Option<Call> {
+    let soil = changed(SOIL, &[(KIND, kind)]);
+    let weather = [&warm[..], &rows(COLD, 11)].concat();
+    let own = measured::pools(&soil_of(&soil), 0, &weather, land, changes, &mut Nearest)?;
+    let state = changed(new_state(soil), &weighed(own));
+    Some(spin(&weather, land, years, state))
+}
+
+fn changing(kind: u64, land: &[i64], changes: [i64; 4], years: u64) -> Call {
+    changing_if_any(kind, JULY, land, changes, years).expect("pools that can lose as much")
+}
+
+/// The changes of a spin-up's first year: four pools, and the total.
+fn first_changes(call: &Call) -> [i64; 5] {
+    let soils = years_of(call, &mut Nearest).0;
+    let [start, end] = [&soils[0], &soils[1]];
+    std::array::from_fn(|index| match index {
+        4 => end.total() as i64 - start.total() as i64,
+        pool => end.pools[pool] as i64 - start.pools[pool] as i64,
+    })
+}
+
+/// The soils with which the years of a spin-up begin, and the last of them ends, and its answer.
+fn years_of(call: &Call, survival: &mut dyn Survival) -> (Vec<Soil>, Vec<u64>) {
+    let (mut soils, mut months) = (Vec::new(), 0);
+    let answer = call.answer(FILL, survival, &mut |state, _| {
+        if months % 12 == 0 {
+            soils.push(state.soil.clone());
+        }
+        months += 1;
+    });
+    assert_eq!(answer[0], 0, "{}", call.line());
+    soils.push(soil_of(&answer[3..]));
+    (soils, answer)
+}
+
+/// The same spin-up with so many years allowed.
+fn allowed(call: &Call, years: u64) -> Call {
+    let Call::SpinUp {
+        weather,
+        land,
+        state,
+        ..
+    } = call
+    else {
+        panic!("a spin-up")
+    };
+    spin(weather, land, years, *state)
+}
+
+/// Hot, and so wet that the deficit is 0.
+const JULY: WeatherRow = [300, 500, 300, 0];
+
+/// Each active pool by itself. What July takes comes back with the additions, so that a pool is
+/// far from its start within the year; only the year's end counts.
+fn spin_pools(sheet: &mut Sheet) {
+    sheet.group("S: each active pool 1,000 or 1,001 g from its start, the total within 1,000 g");
+    let land = bringing(&[(1, 9_000, 0), (5, 7_000, 2_000), (12, 4_000, 8_000)]);
+    let mut turn = 0;
+    for kind in 1..=3 {
+        for pool in 0..4 {
+            for change in [1_000i64, -1_000, 1_001, -1_001] {
+                // The other three come to what the total lacks.
+                let total = [250, -1_000, 0, 1_000, -999][turn % 5];
+                let rest = total - change;
+                let mut changes = [rest / 3; 4];
+                changes[(pool + 1) % 4] = rest - 2 * (rest / 3);
+                changes[pool] = change;
+                let is = u64::from(change.abs() == 1_000);
+                let years = if is == 1 { [1, 7, 10_000][turn % 3] } else { 1 };
+                let call = changing(kind, &land, changes, years);
+                let [dpm, rpm, bio, hum, all] = first_changes(&call);
+                assert_eq!(([dpm, rpm, bio, hum], all), (changes, total));
+                settled(sheet, is, 1, call);
+                turn += 1;
+            }
+        }
+    }
+}
+
+/// The total by itself.
+fn spin_totals(sheet: &mut Sheet) {
+    sheet.group("S: the total 1,000 or 1,001 g from its start, each pool within 1,000 g");
+    let land = bringing(&[(1, 9_000, 3_000), (8, 11_000, 7_000)]);
+    let mut turn = 0;
+    let mut put = |sheet: &mut Sheet, is: u64, changes: [i64; 4]| {
+        for sign in [1, -1] {
+            let years = if is == 1 { [1, 2, 9][turn % 3] } else { 1 };
+            let kind = 1 + turn as u64 % 3;
+            let changes = changes.map(|change| sign * change);
+            settled(sheet, is, 1, changing(kind, &land, changes, years));
+            turn += 1;
+        }
+    };
+    for changes in [
+        [250, 250, 250, 250],
+        [1_000, 0, 0, 0],
+        [0, 1_000, 0, 0],
+        [0, 0, 1_000, 0],
+        [0, 0, 0, 1_000],
+        [1_000, 1_000, -1_000, 0],
+        [-1_000, 999, 1_000, 1],
+        [400, -1_000, 600, 1_000],
+    ] {
+        put(sheet, 1, changes);
+        // One gram more, in a pool that may have it.
+        let mut more = changes;
+        let room = (0..4)
+            .find(|pool| more[*pool].abs() < 1_000)
+            .expect("a pool with room");
+        more[room] += 1;
+        put(sheet, 0, more);
+    }
+    for changes in [
+        [1_000; 4],
+        [334; 4],
+        [0, 1_000, 0, 1_000],
+        [1_000, 0, 1_000, -999],
+    ] {
+        put(sheet, 0, changes);
+    }
+}
+
+/// Pools that move against each other, so that the total stays.
+fn spin_against(sheet: &mut Sheet) {
+    sheet.group("S: one pool falls and another rises by as much, 1,000 or 1,001 g");
+    let land = bringing(&[(2, 16_000, 0), (7, 2_000, 9_000)]);
+    for down in 0..4 {
+        for up in (0..4).filter(|up| *up != down) {
+            for (grams, is) in [(1_000, 1), (1_001, 0)] {
+                let mut changes = [0; 4];
+                (changes[down], changes[up]) = (-grams, grams);
+                let kind = 1 + (down + up) as u64 % 3;
+                settled(sheet, is, 1, changing(kind, &land, changes, 1));
+            }
+        }
+    }
+    // Residue falls while humus rises, and the other way round; far more than 1,000 g.
+    sheet.group("S: residue falls while humus rises by as much, 999 to 20,000 g, and back");
+    for grams in [999, 1_000, 1_001, 1_002, 2_000, 5_000, 20_000] {
+        let land = bringing(&[(1, 8_000 + 14 * grams, 0), (9, 0, grams)]);
+        let is = u64::from(grams <= 1_000);
+        for (turn, sign) in [1, -1].into_iter().enumerate() {
+            let kind = 1 + (grams as u64 + turn as u64) % 3;
+            let residue = [0, -sign * grams, 0, sign * grams];
+            settled(sheet, is, 1, changing(kind, &land, residue, 1));
+            // Over all four, each pool at most that.
+            let (half, tenth) = (grams / 2, grams / 10);
+            let all = [half - grams, -half, tenth, grams - tenth].map(|change| sign * change);
+            let is = u64::from(grams - tenth <= 1_000);
+            settled(sheet, is, 1, changing(kind, &land, all, 1));
+        }
+    }
+}
+
+/// The first years that settle by the total, by the pools and by both, counted from 1.
+struct Firsts {
+    total: usize,
+    pools: usize,
+    both: usize,
+}
+
+/// Those of a spin-up that settles, or nothing.
+fn firsts(call: &Call) -> Option<Firsts> {
+    let (soils, answer) = years_of(call, &mut Known::new(&mut Nearest));
+    let first = |rule: fn(&Soil, &Soil) -> bool| {
+        let year = soils.windows(2).position(|year| rule(&year[0], &year[1]));
+        year.map_or(usize::MAX, |year| year + 1)
+    };
+    (answer[1] == 1).then(|| Firsts {
+        total: first(total_settles),
+        pools: first(pools_settle),
+        both: first(year_settles),
+    })
+}
+
+/// Does each month of this spin-up keep the same for all allowed S?
+fn is_fixed(call: &Call) -> bool {
+    call.fixed_answer().1
+}
+
+/// A small light field: more residue than its plant carbon holds up, and less humus.
+fn small_light_field(draw: &mut Draw) -> Call {
+    let mut state = changed(
+        fresh(),
+        &pools([
+            draw.below(4_000),
+            20_000 + draw.below(120_000),
+            draw.below(9_000),
+            draw.below(90_000),
+        ]),
+    );
+    state[CLAY] = draw.below(300);
+    state[KIND] = 1 + draw.below(3);
+    // Without modern grams, and with activity 0, no month has more to keep than carbon.
+    state[MODERN..KEPT].fill(0);
+    let weather: Vec<i64> = (0..12)
+        .flat_map(|_| {
+            [
+                draw.between(-70, 180),
+                draw.between(200, 1_200),
+                draw.between(0, 1_100),
+                0,
+            ]
+        })
+        .collect();
+    let most = draw.between(500, 4_000);
+    let land: Vec<i64> = (0..12)
+        .flat_map(|_| match draw.below(3) {
+            0 => FALLOW,
+            _ => [1, draw.between(0, most), 0, 0],
+        })
+        .collect();
+    spin(&weather, &land, 150, state)
+}
+
+/// The total settles first, the pools years later.
+fn spin_pools_later(sheet: &mut Sheet) {
+    let mut draw = Draw::new(2605);
+    for (shows, years, fields) in [
+        (
+            "S: the total settles first, a pool keeps the field going: up to 9 years",
+            2..=9,
+            5,
+        ),
+        (
+            "S: the total settles first, a pool keeps the field going: 10 to 29 years",
+            10..=29,
+            5,
+        ),
+        (
+            "S: the total settles first, a pool keeps the field going: 30 to 59 years",
+            30..=59,
+            4,
+        ),
+        (
+            "S: the total settles first, a pool keeps the field going: 60 years and more",
+            60..=150,
+            3,
+        ),
+    ] {
+        sheet.group(shows);
+        let mut made = 0;
+        while made < fields {
+            let call = small_light_field(&mut draw);
+            let Some(first) = firsts(&call) else { continue };
+            let wanted = first.total < first.both && years.contains(&first.both);
+            if !wanted || !is_fixed(&call) {
+                continue;
+            }
+            made += 1;
+            let (total, both) = (first.total as u64, first.both as u64);
+            settled(sheet, 0, total, allowed(&call, total));
+            if total < both - 1 {
+                settled(sheet, 0, both - 1, allowed(&call, both - 1));
+            }
+            settled(sheet, 1, both, allowed(&call, both));
+            settled(sheet, 1, both, allowed(&call, 10_000));
+        }
+    }
+}
+
+/// The pools settle first, the total years later.
+fn spin_total_later(sheet: &mut Sheet) {
+    sheet.group("S: the pools settle first, the total keeps the field going for years");
+    let mut draw = Draw::new(5);
+    for years in [
+        3..=5,
+        3..=5,
+        6..=15,
+        6..=15,
+        16..=30,
+        16..=30,
+        31..=60,
+        61..=90,
+    ] {
+        loop {
+            let sign = [1, -1][draw.below(2) as usize];
+            let changes = [0; 4].map(|_| sign * draw.between(0, 1_000));
+            let mut warm = JULY;
+            warm[TEMPERATURE] = draw.between(60, 300);
+            let land = bringing(&[(1, draw.between(7_000, 30_000), 0), (6, 0, 4_000)]);
+            let kind = 1 + draw.below(3);
+            let call = changing_if_any(kind, warm, &land, changes, 90);
+            let Some(call) = call else { continue };
+            let Some(first) = firsts(&call) else { continue };
+            let (pools, both) = (first.pools as u64, first.both as u64);
+            let wanted = pools + 1 < both && years.contains(&both);
+            if !wanted || first.total < first.both || !is_fixed(&call) {
+                continue;
+            }
+            settled(sheet, 0, pools, allowed(&call, pools));
+            settled(sheet, 0, both - 1, allowed(&call, both - 1));
+            settled(sheet, 1, both, allowed(&call, both + 9));
+            break;
+        }
+    }
+}
+
+/// The first year that settles ends it, though a later one wouldn't settle.
+fn spin_first_year(sheet: &mut Sheet) {
+    sheet.group("S: the first year that settles counts: the year after it wouldn't settle");
+    let mut draw = Draw::new(2_605);
+    // The year after it is kept from settling by a pool alone or by the total alone. It settles
+    // after one year or after more: of the latter up to four, as many as 4,000
+    // draws give.
+    let mut left = [[4, 4], [4, 4]];
+    let mut tried = 0;
+    while left.concat().iter().sum::<i32>() > 0 && tried < 4_000 {
+        tried += 1;
+        let late = draw.below(2) as usize;
+        let most = [1_000, 1_600][late];
+        let changes = [0; 4].map(|_| draw.between(-most, most));
+        let mut warm = JULY;
+        warm[TEMPERATURE] = draw.between(60, 300);
+        let land = bringing(&[(1, draw.between(9_000, 30_000), 0), (6, 0, 4_000)]);
+        let kind = 1 + draw.below(3);
+        let call = changing_if_any(kind, warm, &land, changes, 12);
+        let Some(call) = call else { continue };
+        let (_, answer) = years_of(&call, &mut Known::new(&mut Nearest));
+        let (is, years) = (answer[1], answer[2]);
+        if is == 0 || (years > 1) != (late == 1) {
+            continue;
+        }
+        // The same field from where it settled, for a year.
+        let mut state = [0; STATE_NUMBERS];
+        state.copy_from_slice(&answer[3..]);
+        let Call::SpinUp { weather, land, .. } = &call else {
+            continue;
+        };
+        let next = spin(weather, land, 1, state);
+        let soils = years_of(&next, &mut Known::new(&mut Nearest)).0;
+        let [total, own] = [total_settles, pools_settle].map(|rule| rule(&soils[0], &soils[1]));
+        let by = match (total, own) {
+            (true, false) => 0,
+            (false, true) => 1,
+            _ => continue,
+        };
+        if left[late][by] == 0 || !is_fixed(&call) || !is_fixed(&next) {
+            continue;
+        }
+        left[late][by] -= 1;
+        settled(sheet, 1, years, allowed(&call, years));
+        settled(sheet, 1, years, call);
+        settled(sheet, 0, 1, next);
+    }
+    assert!(left[0] == [0, 0] && left[1][0] < 4, "{left:?}");
+}
+
+/// What stands beside the active pools: IOM, months done, the kept count, modern grams.
+fn spin_beside_pools(sheet: &mut Sheet) {
+    let land = bringing(&[(1, 9_000, 0), (6, 9_000, 5_000)]);
+    let at_limit = [1_000, -1_000, 700, 300];
+    let past = [0, -1_001, 0, 1_001];
+    sheet.group("S: IOM at its limits, kept counts, months done and CO2: none of them counts");
+    let limit = deficit_limit(&STATE);
+    for changes in [
+        vec![(INERT, 0)],
+        vec![(INERT, 1)],
+        vec![(INERT, CEILING)],
+        vec![(KEPT, 1)],
+        vec![(KEPT, 24)],
+        vec![(MONTHS, 119_988)],
+        vec![(MONTHS, 10), (CO2, CEILING)],
+    ] {
+        for (own, is) in [(at_limit, 1), (past, 0)] {
+            let mut call = changing(2, &land, own, 1);
+            if let Call::SpinUp { state, .. } = &mut call {
+                *state = changed(*state, &changes);
+            }
+            settled(sheet, is, 1, call);
+            assert_eq!(sheet.answer()[3 + KEPT], 0);
+        }
+    }
+    // The deficit moves by far more than 1,000 parts, and ends elsewhere than it began.
+    for deficit in [1_001, limit] {
+        let state = changed(STATE, &[(DEFICIT, deficit)]);
+        let wet = rows([-60, 1, 0, 0], 12);
+        settled(sheet, 1, 1, spin(&wet, &first_month(1_000), 3, state));
+        settled(sheet, 0, 3, spin(&wet, &first_month(1_001), 3, state));
+    }
+    sheet.group("S: modern grams move by far more than 1,000 g and don't count");
+    for (grams, activity) in [
+        (0, 2_000),
+        (90_000, 0),
+        (90_000, 2_000),
+        (30_000_000, 1_000),
+    ] {
+        for (own, is) in [(at_limit, 1), (past, 0)] {
+            let mut call = changing(3, &land, own, 1);
+            if let Call::SpinUp { state, land, .. } = &mut call {
+                *state = changed(*state, &modern([grams; 4]));
+                land[ACTIVITY - COVER] = activity;
+                land[5 * LAND_NUMBERS + ACTIVITY - COVER] = activity;
+            }
+            // Of the largest, those that are fixed.
+            while !is_fixed(&call) {
+                let Call::SpinUp { state, .. } = &mut call else {
+                    break;
+                };
+                state[MODERN..KEPT].iter_mut().for_each(|grams| *grams -= 1);
+            }
+            settled(sheet, is, 1, call);
+            let Call::SpinUp { state, .. } = &sheet.last().call else {
+                panic!("a spin-up")
+            };
+            let moved = |pool: &usize| sheet.answer()[3 + pool].abs_diff(state[*pool]) > 1_000;
+            assert!((MODERN..KEPT).filter(moved).count() >= 2);
+        }
+    }
+    // A year that the total alone would have settled goes on into a month that is refused.
+    sheet.group("S: the total settles, a pool doesn't, and a later year's month is refused");
+    for years in [2, 3, 10_000] {
+        for (own, number) in [(at_limit, 0), (past, 12)] {
+            let mut call = changing(1, &land, own, years);
+            if let Call::SpinUp { state, .. } = &mut call {
+                state[MONTHS] = 119_988;
+            }
+            match number {
+                0 => settled(sheet, 1, 1, call),
+                _ => sheet.refused_at(number, 13, call),
+            }
+        }
+    }
+    // Residue falls and humus rises for years: 12 in one of the last two years
+    // that it needs, or just in time.
+    let land = bringing(&[(1, 28_000, 0), (9, 0, 2_000)]);
+    let call = changing(1, &land, [0, -1_500, 0, 1_500], 150);
+    let years = firsts(&call).expect("a field that settles").both as u64;
+    assert!(years > 2);
+    for (late, is) in [(0, 1), (1, 0), (12, 0), (13, 0)] {
+        let mut call = call.clone();
+        if let Call::SpinUp { state, .. } = &mut call {
+            state[MONTHS] = 120_000 - 12 * years + late;
+        }
+        match is {
+            1 => settled(sheet, 1, years, call),
+            _ => sheet.refused_at(12, 12 * years - late + 1, call),
+        }
+    }
+}
+
+/// The two light fields of change 2026-05 for as many years as are fixed: each pool up to 9 kg less
+/// than the field's, without modern grams, and activity 0.
+fn spin_light(sheet: &mut Sheet) {
+    sheet.group("S: the light fields, their pools up to 9 kg less, in the first 11 and 8 years");
+    let year = hoosfield();
+    for (clay, plant, grams, most, by_total) in [
+        (40, 260_000, [200_000, 7_499_573, 399_973, 7_997_376], 11, 3),
+        (60, 270_000, [200_000, 8_999_568, 399_973, 9_991_003], 8, 8),
+    ] {
+        let [dpm, rpm, bio, hum] = grams;
+        let soil = [clay, 23, 1, dpm, rpm, bio, hum, 1_500_000];
+        let state = changed(new_state(soil), &modern([0; 4]));
+        let mut land = year.land.clone();
+        for row in land.chunks_mut(LAND_NUMBERS) {
+            let own = row[1].signum() * plant;
+            row[1..].copy_from_slice(&[own, 0, 0]);
+        }
+        for years in 1..=most {
+            settled(sheet, 0, years, spin(&year.weather, &land, years, state));
+        }
+        // The total alone would have ended it.
+        let (soils, _) = years_of(&sheet.last().call, &mut Known::new(&mut Nearest));
+        let total = |year: &[Soil]| total_settles(&year[0], &year[1]);
+        assert_eq!(soils.windows(2).position(total), Some(by_total - 1));
+    }
 }
 
 /// Refused in the first and in later years: the place counted over all years, the starting state.
@@ -2274,11 +2745,14 @@ fn drawn_spin_ups(sheet: &mut Sheet, seed: u64, each: usize, sky: fn(Vec<i64>) -
     let mut draw = Draw::new(seed);
     let mut made = [0; 3];
     while made.iter().sum::<usize>() < 3 * each {
-        let mut state = drawn_state(&mut draw, 150_000);
+        // Small pools settle at once, larger ones later or not.
+        let (largest, addition) =
+            [(900, 90), (9_000, 900), (150_000, 3_000)][draw.below(3) as usize];
+        let mut state = drawn_state(&mut draw, largest);
         state[MONTHS] = draw.below(100_000);
         let weather = sky(drawn_weather(&mut draw, 12));
-        let land = drawn_land(&mut draw, 12, 3_000);
-        let call = spin(&weather, &land, 1 + draw.below(9), state);
+        let land = drawn_land(&mut draw, 12, addition);
+        let call = spin(&weather, &land, 1 + draw.below(30), state);
         let (answer, fixed) = call.fixed_answer();
         let sort = match (answer[1], answer[2]) {
             (1, 1) => 0,
@@ -4109,7 +4583,7 @@ mod tests {
         let input: usize = lines.iter().map(|line| line.call.input().len()).sum();
         let answered = |line: &&Line| line.call.answer_line(&line.answer).len() + 1;
         let output: usize = lines.iter().map(answered).sum();
-        assert!(lines.len() >= 6_300, "{} lines", lines.len());
+        assert!(lines.len() >= 6_600, "{} lines", lines.len());
         assert!(input < 1_100_000, "{input} bytes in");
         assert!(output < 1_300_000, "{output} bytes out");
         // Every refusal that a call can meet is there, and the limits of the format are kept.

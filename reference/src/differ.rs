@@ -18,10 +18,13 @@ use crate::exponential::{
     BILLION, MOST_TERMS, OLDEST, STEP_PARTS,
 };
 use crate::fraction::Fraction;
+use crate::light;
+use crate::measured;
 use crate::memory;
 use crate::model::{
-    Field, Survival, EVAPOTRANSPIRATION, FRESH, HIGHEST_ACTIVITY, KEPT_LIMIT, LAND_NUMBERS,
-    MONTH_LIMIT, OPEN_PAN, OUTPUT_NUMBERS, RATES, WEATHER_NUMBERS,
+    pools_settle, total_settles, Field, Nearest, Soil, Survival, Watch, EVAPOTRANSPIRATION, FRESH,
+    HIGHEST_ACTIVITY, KEPT_LIMIT, LAND_NUMBERS, MONTH_LIMIT, OPEN_PAN, OUTPUT_NUMBERS, RATES,
+    WEATHER_NUMBERS, YEAR_LIMIT,
 };
 use crate::recurrence::{
     carbon_closes, demand_three, distance_exact, q_highest, q_lowest, Call as Answered, Decision,
@@ -102,7 +105,7 @@ impl Default for Counts {
         Counts {
             months: 120_000,
             lists: 1_000,
-            spin_ups: 100,
+            spin_ups: 40_000,
             books: 10_000,
             tables: 24_000,
             pairs: 6_000,
@@ -170,6 +173,29 @@ pub struct Differ<'a> {
     pub seen: HashMap<(&'static str, u64), u64>,
     /// Month calls by open pan, by evapotranspiration and by another source.
     pub sources: [u64; 3],
+    pub rules: Rules,
+}
+
+/// What the years of spin-ups show of the rule and of the total alone.
+#[derive(Clone, Copy, Debug, Default)]
+pub struct Rules {
+    /// Whole years.
+    pub years: u64,
+    /// Those in which a pool alone is too far from its start.
+    pub pools_alone: u64,
+    /// Those in which the total alone is.
+    pub total_alone: u64,
+    /// Those with a pool or the total just at the limit, or one gram past it.
+    pub beside: u64,
+    /// Spin-ups that the total alone would have ended in an earlier year.
+    pub earlier: u64,
+    /// Spin-ups unsettled in their last year, which the total alone would have settled.
+    pub instead: u64,
+    /// Spin-ups that settled, in their first year and later.
+    pub first: u64,
+    pub later: u64,
+    /// Spin-ups refused at a month after their first year.
+    pub refused_later: u64,
 }
 
 /// What a long chain is made of.
@@ -414,6 +440,7 @@ impl<'a> Differ<'a> {
             first: Vec::new(),
             seen: HashMap::new(),
             sources: [0; 3],
+            rules: Rules::default(),
         }
     }
 
@@ -483,6 +510,11 @@ impl<'a> Differ<'a> {
 
     /// One call; the other program's state after it, where it has one.
     fn call(&mut self, call: &Call) -> Option<StateNumbers> {
+        self.call_watched(call, &mut |_, _| ())
+    }
+
+    /// The same; `watch` sees each month that the reference runs.
+    fn call_watched(&mut self, call: &Call, watch: Watch) -> Option<StateNumbers> {
         let fill = self.fill();
         let given = program_answer(self.program, call, fill);
         let mut faults = Vec::new();
@@ -492,7 +524,7 @@ impl<'a> Differ<'a> {
             ages: &mut self.ages,
             faults: &mut faults,
         };
-        let wanted = call.answer(fill, &mut asked, &mut |_, _| ());
+        let wanted = call.answer(fill, &mut asked, watch);
         *self.seen.entry((call.name(), wanted[0])).or_default() += 1;
         if let Call::Month { entries, .. } = call {
             let source = [OPEN_PAN, EVAPOTRANSPIRATION]
@@ -1002,18 +1034,23 @@ impl<'a> Differ<'a> {
                 self.land(room).to_vec()
             };
             if faulty > 0 && self.draw.below(faulty) == 0 {
-                let place = self.draw.below(row.len() as u64) as usize;
-                row[place] = match (weather, place) {
-                    (true, TEMPERATURE) => self.wild_signed(&[-400, 500]),
-                    (true, SOURCE) | (false, 0) => self.wild_signed(&[0, 1]),
-                    (true, _) => self.wild_signed(&[0, 20_000]),
-                    (false, 3) => self.wild_signed(&[0, HIGHEST_ACTIVITY]),
-                    (false, _) => self.wild_signed(&[0, 100_000_000]),
-                };
+                self.spoil_row(&mut row, weather);
             }
             numbers.extend(row);
         }
         numbers
+    }
+
+    /// One number of a weather row or land row made wild.
+    fn spoil_row(&mut self, row: &mut [i64], weather: bool) {
+        let place = self.draw.below(row.len() as u64) as usize;
+        row[place] = match (weather, place) {
+            (true, TEMPERATURE) => self.wild_signed(&[-400, 500]),
+            (true, SOURCE) | (false, 0) => self.wild_signed(&[0, 1]),
+            (true, _) => self.wild_signed(&[0, 20_000]),
+            (false, 3) => self.wild_signed(&[0, HIGHEST_ACTIVITY]),
+            (false, _) => self.wild_signed(&[0, 100_000_000]),
+        };
     }
 
     /// A start for a list or spin-up.
@@ -1079,38 +1116,327 @@ impl<'a> Differ<'a> {
         self.say(format!("lists: {count}; {}", self.answers("list")));
     }
 
+    // ---- Spin-ups ----
+
+    /// Most are short and aimed at the rule; one in 200 is of any kind and length.
     fn spin_ups(&mut self, count: u64) {
         for done in 0..count {
-            let mut rows = || match self.draw.below(16) {
-                // 9 rows are 36 numbers, three a month.
-                0 => self.pick(&[0, 9, 11, 13, 16, 24]),
-                _ => 12,
+            let mut call = match done % 200 {
+                0 => self.any_spin_up(done % 1_000 == 0),
+                turn if turn % 2 == 1 => self.measured_spin_up(),
+                _ => self.light_spin_up(),
             };
-            let (skies, fields) = (rows(), rows());
-            let faulty = if self.draw.below(6) == 0 { 24 } else { 0 };
-            let largest = self.pick(&[0, 300, 100_000, 1_000_000, 50_000_000]);
-            let weather = self.row_numbers(skies, faulty, true, 0);
-            let land = self.row_numbers(fields, faulty, false, largest);
-            let years = match self.draw.below(10) {
-                0 => self.wild(&[1, 10_000]),
-                1 if done % 5 == 0 => 10_000,
-                _ => 1 + self.draw.below(120),
-            };
-            let mut state = self.start();
-            if self.draw.below(2) == 0 {
-                // Small pools settle, some of them late.
-                let total = self.draw.below(3_000_000);
-                let pools = self.parts(total);
-                state[POOLS..INERT].copy_from_slice(&pools);
+            if done % 200 > 0 && self.draw.below(6) == 0 {
+                self.spoil_spin_up(&mut call);
             }
-            self.call(&Call::SpinUp {
+            self.spun(&call);
+            if done % 5_000 == 4_999 {
+                self.say(format!("spin-ups: {}", done + 1));
+            }
+        }
+        let Rules {
+            years,
+            pools_alone,
+            total_alone,
+            beside,
+            earlier,
+            instead,
+            first,
+            later,
+            refused_later,
+        } = self.rules;
+        self.say(format!(
+            "spin-ups: {count}; {first} settled in their first year, {later} later; \
+             {refused_later} refused after their first year; {}",
+            self.answers("spin-up")
+        ));
+        self.say(format!(
+            "the total alone would have ended {earlier} spin-ups in an earlier year and settled \
+             {instead} more in their last, where they ended unsettled; of {years} years, a pool \
+             alone kept {pools_alone} from settling, the total alone {total_alone}; {beside} had a \
+             pool or the total at the limit or a gram past it"
+        ));
+    }
+
+    /// A spin-up, and what its years say of the rule: the soils with which they begin and end.
+    fn spun(&mut self, call: &Call) -> Vec<Soil> {
+        let (mut soils, mut months) = (Vec::new(), 0u64);
+        let next = self.call_watched(call, &mut |state, _| {
+            if months % 12 == 0 {
+                soils.push(state.soil.clone());
+            }
+            months += 1;
+        });
+        let from = call.state().expect("a spin-up is lent a state")[MONTHS];
+        let mut after = next.filter(|after| after[MONTHS] != from);
+        let refused = after.is_none();
+        if refused && months > 0 && months % 12 == 0 {
+            // Refused in a year's first month: the years before it.
+            let mut call = call.clone();
+            if let Call::SpinUp { years, .. } = &mut call {
+                *years = months / 12;
+            }
+            after = self.call(&call);
+        }
+        soils.extend(after.map(|after| soil_of(&after)));
+        let whole = soils.len().saturating_sub(1);
+        let mut by_total = None;
+        let mut settled = false;
+        for (index, year) in soils.windows(2).enumerate() {
+            let (start, end) = (&year[0], &year[1]);
+            let (total, pools) = (total_settles(start, end), pools_settle(start, end));
+            let at_limit = |one: u128, other: u128| (1_000..=1_001).contains(&one.abs_diff(other));
+            let grams = start.pools.iter().zip(&end.pools);
+            let beside = at_limit(start.total(), end.total())
+                || grams
+                    .into_iter()
+                    .any(|(one, other)| at_limit(*one as u128, *other as u128));
+            self.rules.years += 1;
+            self.rules.pools_alone += u64::from(total && !pools);
+            self.rules.total_alone += u64::from(pools && !total);
+            self.rules.beside += u64::from(beside);
+            if total && by_total.is_none() {
+                by_total = Some(index + 1);
+            }
+            settled = total && pools;
+        }
+        let rules = &mut self.rules;
+        match by_total {
+            Some(year) if year < whole || refused => rules.earlier += 1,
+            Some(_) if !settled => rules.instead += 1,
+            _ => (),
+        }
+        match whole {
+            _ if refused => rules.refused_later += u64::from(months >= 12),
+            1 => rules.first += u64::from(settled),
+            _ => rules.later += u64::from(settled),
+        }
+        soils
+    }
+
+    /// Any weather and land, up to 120 years and now and then 10,000.
+    fn any_spin_up(&mut self, long: bool) -> Call {
+        let mut rows = || match self.draw.below(16) {
+            // 9 rows are 36 numbers, three a month.
+            0 => self.pick(&[0, 9, 11, 13, 16, 24]),
+            _ => 12,
+        };
+        let (skies, fields) = (rows(), rows());
+        let faulty = if self.draw.below(6) == 0 { 24 } else { 0 };
+        let largest = self.pick(&[0, 300, 100_000, 1_000_000, 50_000_000]);
+        let weather = self.row_numbers(skies, faulty, true, 0);
+        let land = self.row_numbers(fields, faulty, false, largest);
+        let years = match self.draw.below(10) {
+            0 => self.wild(&[1, 10_000]),
+            1 | 2 if long => 10_000,
+            _ => 1 + self.draw.below(120),
+        };
+        let mut state = self.start();
+        if self.draw.below(2) == 0 {
+            // Small pools settle, some of them late.
+            let total = self.draw.below(3_000_000);
+            let pools = self.parts(total);
+            state[POOLS..INERT].copy_from_slice(&pools);
+        }
+        Call::SpinUp {
+            weather,
+            land,
+            years,
+            state,
+        }
+    }
+
+    /// A state that nothing refuses with these active pools.
+    fn state_with(&mut self, pools: [u64; 4]) -> StateNumbers {
+        let mut state = self.state();
+        self.put_pools(&mut state, pools);
+        state
+    }
+
+    /// Puts these active pools into it, CO2 and modern grams as 10 allows.
+    fn put_pools(&mut self, state: &mut StateNumbers, pools: [u64; 4]) {
+        state[POOLS..INERT].copy_from_slice(&pools);
+        let most = 1_000_000_000 + 200_000_000 * state[MONTHS] - active(state);
+        state[CO2] = state[CO2].min(most);
+        let modern = self.modern(state);
+        state[MODERN..KEPT].copy_from_slice(&modern);
+    }
+
+    /// Years to run for a spin-up that is aimed at the rule.
+    fn few_years(&mut self) -> u64 {
+        match self.draw.below(16) {
+            0 => self.pick(&[1, 2, 150, 10_000]),
+            1..=5 => 1 + self.draw.below(3),
+            _ => 1 + self.draw.below(60),
+        }
+    }
+
+    /// What the first year is to change: a pool or the total at the limit or beside it, pools that
+    /// move against each other, or anything not far from it.
+    fn changes(&mut self) -> [i64; 4] {
+        let sign = self.pick(&[1, -1]);
+        let edge = sign * self.pick(&[999, 1_000, 1_001, 1_002]);
+        let [one, two, three] = [0; 3].map(|_| self.draw.between(-1_000, 1_000));
+        let mut changes = match self.draw.below(8) {
+            // A pool, with a total within the limit.
+            0 => {
+                let total = self.pick(&[0, one, 1_000, -1_000]);
+                let rest = total - edge;
+                let part = self.draw.between(rest.min(0), rest.max(0)) / 2;
+                [
+                    edge,
+                    part,
+                    (rest - part) / 2,
+                    rest - part - (rest - part) / 2,
+                ]
+            }
+            // The total, with pools within the limit as far as they go.
+            1 => [one, two / 2, three / 2, edge - one - two / 2 - three / 2],
+            2 => [edge, one / 8, two / 8, three / 8],
+            // One against another.
+            3 => [edge, -edge, 0, 0],
+            4 => [edge, -edge, one / 4, two / 4],
+            // Each within the limit.
+            5 => [one, two, three, self.draw.between(-1_000, 1_000)],
+            6 => [0; 4].map(|_| sign * self.draw.between(300, 1_000)),
+            _ => [0; 4].map(|_| self.draw.between(-4_000, 4_000)),
+        };
+        for pool in 0..4 {
+            changes.swap(pool, pool + self.draw.below(4 - pool as u64) as usize);
+        }
+        changes
+    }
+
+    /// One warm month a year and eleven frozen ones, from pools that its first year changes by just
+    /// what is asked.
+    fn measured_spin_up(&mut self) -> Call {
+        loop {
+            let mut weather = Vec::new();
+            for month in 0..12 {
+                let [temperature, rain, evaporation, source] = self.weather();
+                let temperature = match month {
+                    0 => temperature.clamp(-50, 500),
+                    _ => self.draw.between(-400, -51),
+                };
+                weather.extend([temperature, rain, evaporation, source]);
+            }
+            let largest = self.pick(&[200, 5_000, 20_000]);
+            let land = self.row_numbers(12, 0, false, largest);
+            let mut state = self.state();
+            let (soil, deficit) = (soil_of(&state), state[DEFICIT] as i128);
+            let changes = self.changes();
+            let own = measured::pools(&soil, deficit, &weather, &land, changes, &mut Nearest);
+            let Some(own) = own.filter(|own| own.iter().sum::<u64>() <= 900_000_000) else {
+                continue;
+            };
+            self.put_pools(&mut state, own);
+            return Call::SpinUp {
                 weather,
                 land,
-                years,
+                years: self.few_years(),
                 state,
-            });
+            };
         }
-        self.say(format!("spin-ups: {count}; {}", self.answers("spin-up")));
+    }
+
+    /// A small light field, or its opposite: residue and humus far from where the year's plant
+    /// carbon holds them, on either side.
+    fn light_spin_up(&mut self) -> Call {
+        let mut weather = Vec::new();
+        for _ in 0..12 {
+            let temperature = self.draw.between(-70, 200);
+            let (rain, evaporation) = (self.draw.between(0, 1_200), self.draw.between(0, 1_200));
+            let source = self.draw.between(OPEN_PAN, EVAPOTRANSPIRATION);
+            weather.extend([temperature, rain, evaporation, source]);
+        }
+        let most = self.pick(&[0, 300, 1_000, 3_000, 10_000]);
+        let mut land = Vec::new();
+        for _ in 0..12 {
+            let plant = self.draw.between(0, most);
+            let manure = self.pick(&[0, 0, 0, most / 2]);
+            land.extend([self.draw.between(0, 1), plant, manure, self.activity()]);
+        }
+        let size = most as u64 + 100;
+        let pools = [size, 40 * size, 3 * size, 40 * size].map(|most| self.draw.below(most));
+        Call::SpinUp {
+            weather,
+            land,
+            years: self.few_years(),
+            state: self.state_with(pools),
+        }
+    }
+
+    /// A fault outside the months or in one of them, or a limit that a later year comes to.
+    fn spoil_spin_up(&mut self, call: &mut Call) {
+        let Call::SpinUp {
+            weather,
+            land,
+            years,
+            state,
+        } = call
+        else {
+            panic!("a spin-up")
+        };
+        match self.draw.below(14) {
+            0 => {
+                let numbers = self.pick(&[0, 4, 36, 44, 47, 49, 52, 96]);
+                let rows = if self.draw.below(2) == 0 {
+                    weather
+                } else {
+                    land
+                };
+                rows.resize(numbers, 0);
+            }
+            1 => *years = self.pick(&[0, 10_001]),
+            2 => *years = self.wild(&[1, 10_000]),
+            3..=5 => self.spoil_state(state),
+            6..=9 => {
+                let of_weather = self.draw.below(2) == 0;
+                let rows = if of_weather { weather } else { land };
+                let from = 4 * self.draw.below(12) as usize;
+                self.spoil_row(&mut rows[from..from + 4], of_weather);
+            }
+            10 | 11 => {
+                // 12 in one of the years, or just not.
+                let months = 1 + self.draw.below(12 * (*years).min(70));
+                state[MONTHS] = MONTH_LIMIT - self.pick(&[months, months / 12 * 12]);
+            }
+            _ => {
+                // 17 in one of the years, or just not: nothing decays.
+                for row in weather.chunks_mut(WEATHER_NUMBERS) {
+                    row[TEMPERATURE] = -51;
+                }
+                let a_year: i64 = land.chunks(LAND_NUMBERS).map(|row| row[1] + row[2]).sum();
+                let before = self.draw.below(40) * a_year as u64 + self.draw.below(2_000);
+                let total = 1_000_000_000 - before.min(1_000_000_000);
+                let pools = self.parts(total);
+                self.put_pools(state, pools);
+            }
+        }
+        // Two faults at once now and then.
+        if self.draw.below(5) == 0 {
+            self.spoil_state(state);
+        }
+    }
+
+    /// A light field's spin-up in full, and with as many years as end it before, at and after the
+    /// first year that the total alone would have settled, and the first that settles.
+    pub fn light(&mut self, field: &light::Field) {
+        let soils = self.spun(&field.spin_up(YEAR_LIMIT as u64));
+        let years = soils.len() as u64 - 1;
+        let by_total = soils
+            .windows(2)
+            .position(|year| total_settles(&year[0], &year[1]));
+        let by_total = by_total.map_or(years, |year| year as u64 + 1);
+        for last in [by_total, years] {
+            for years in [last - 1, last, last + 1] {
+                self.spun(&field.spin_up(years));
+            }
+        }
+        self.say(format!(
+            "{}: {years} years, {by_total} by the total alone",
+            field.name
+        ));
     }
 
     // ---- Books ----
@@ -2679,7 +3005,10 @@ fn active(state: &StateNumbers) -> u64 {
 #[cfg(test)]
 mod tests {
     use super::*;
+    use crate::call_lines::Line;
+    use crate::calls::numbers_of;
     use crate::exponential::{age_floor, survival_floor};
+    use crate::model::{run_years, year_settles, Settles, Spun};
 
     /// The reference itself with S rounded down, and on request with a slip.
     struct Own {
@@ -2724,6 +3053,85 @@ mod tests {
                 *to = *from;
             }
         }
+    }
+
+    /// A rule that is wrong in one thing.
+    fn slipped_rule(slip: &str) -> Option<Settles> {
+        let rule: Settles = match slip {
+            "the total alone" => total_settles,
+            "the pools alone" => pools_settle,
+            "DPM isn't asked" => |start, end| asking([1, 2, 3], start, end),
+            "RPM isn't asked" => |start, end| asking([0, 2, 3], start, end),
+            "BIO isn't asked" => |start, end| asking([0, 1, 3], start, end),
+            "HUM isn't asked" => |start, end| asking([0, 1, 2], start, end),
+            "1,000 g don't settle" => |start, end| {
+                let apart = |pool: usize| start.pools[pool].abs_diff(end.pools[pool]);
+                year_settles(start, end) && (0..4).all(|pool| apart(pool) < 1_000)
+            },
+            "1,001 g settle" => |start, end| {
+                let apart = |pool: usize| start.pools[pool].abs_diff(end.pools[pool]);
+                total_settles(start, end) && (0..4).all(|pool| apart(pool) <= 1_001)
+            },
+            "1,001 g of the total settle" => |start, end| {
+                start.total().abs_diff(end.total()) <= 1_001 && pools_settle(start, end)
+            },
+            "falls aren't asked" => |start, end| {
+                total_settles(start, end)
+                    && (0..4).all(|pool| end.pools[pool] <= start.pools[pool] + 1_000)
+            },
+            "rises aren't asked" => |start, end| {
+                total_settles(start, end)
+                    && (0..4).all(|pool| start.pools[pool] <= end.pools[pool] + 1_000)
+            },
+            "residue is one pool" => |start, end| {
+                let residue = |soil: &Soil| soil.pools[0] + soil.pools[1];
+                asking([2, 3, 3], start, end) && residue(start).abs_diff(residue(end)) <= 1_000
+            },
+            _ => return None,
+        };
+        Some(rule)
+    }
+
+    fn asking(asked: [usize; 3], start: &Soil, end: &Soil) -> bool {
+        let apart = |pool: usize| start.pools[pool].abs_diff(end.pools[pool]);
+        total_settles(start, end) && asked.into_iter().all(|pool| apart(pool) <= 1_000)
+    }
+
+    /// The answer by another rule to a spin-up that has this one.
+    fn spun_by(settles: Settles, call: &Call, answer: Vec<u64>) -> Vec<u64> {
+        let Call::SpinUp {
+            weather,
+            land,
+            years,
+            state,
+        } = call
+        else {
+            panic!("a spin-up")
+        };
+        // Refused outside the months.
+        if answer[0] != 0 && answer[2] == 0 {
+            return answer;
+        }
+        let (next, spun) = run_years(
+            settles,
+            &state_of(state),
+            weather,
+            land,
+            *years,
+            &mut OwnSurvival { far: false },
+            &mut |_, _| (),
+        );
+        let mut state = *state;
+        let head = match spun {
+            Err(refusal) => [refusal.cause.number() as u64, 0, refusal.place],
+            Ok(Spun::Settled(years)) => [0, 1, years],
+            Ok(Spun::Unsettled(years)) => [0, 0, years],
+        };
+        if head[0] == 0 {
+            state[..OWN_NUMBERS].copy_from_slice(&numbers_of(&next));
+            state[KEPT] = 0;
+        }
+        [&head[..], &state].concat()
     }
 
     impl Program for Own {
@@ -2847,12 +3255,16 @@ mod tests {
             let (Ok(lent), 2) = (<StateNumbers>::try_from(&*state), result.len()) else {
                 return WRONG_SHAPE;
             };
-            let answer = self.answer(&Call::SpinUp {
+            let call = Call::SpinUp {
                 weather: weather.to_vec(),
                 land: land.to_vec(),
                 years,
                 state: lent,
-            });
+            };
+            let answer = match slipped_rule(self.slip) {
+                Some(settles) => spun_by(settles, &call, self.answer(&call)),
+                None => self.answer(&call),
+            };
             result.copy_from_slice(&answer[1..3]);
             write(state, &answer[3..]);
             if self.slip == "spin-up's count" && answer[..2] == [0, 0] {
@@ -2998,7 +3410,7 @@ mod tests {
         differ.run(&Counts {
             months: 9_000,
             lists: 200,
-            spin_ups: 30,
+            spin_ups: 400,
             books: 1_000,
             tables: 2_000,
             pairs: 300,
@@ -3041,6 +3453,77 @@ mod tests {
             for number in numbers {
                 assert!(seen.contains_key(&(name, *number)), "{name} {number}");
             }
+        }
+    }
+
+    /// Slips in when a year settles are found by the drawn spin-ups alone, and by the test lines
+    /// alone.
+    #[test]
+    fn slips_of_the_rule_differ() {
+        let groups = crate::call_lines::groups();
+        let lines = groups.iter().flat_map(|group| &group.lines);
+        let spin_ups = |line: &&Line| matches!(line.call, Call::SpinUp { .. });
+        let lines: Vec<&Line> = lines.filter(spin_ups).collect();
+        for slip in [
+            "",
+            "the total alone",
+            "the pools alone",
+            "DPM isn't asked",
+            "RPM isn't asked",
+            "BIO isn't asked",
+            "HUM isn't asked",
+            "1,000 g don't settle",
+            "1,001 g settle",
+            "1,001 g of the total settle",
+            "falls aren't asked",
+            "rises aren't asked",
+            "residue is one pool",
+        ] {
+            let mut own = Own { slip };
+            let mut quiet = |_: &str| ();
+            let mut differ = Differ::new(&mut own, 5, &mut quiet);
+            differ.spin_ups(if slip.is_empty() { 3_000 } else { 1_200 });
+            assert_eq!(
+                differ.differ > 0,
+                !slip.is_empty(),
+                "{slip}: {:?}",
+                differ.first
+            );
+            if slip.is_empty() {
+                reaches_all(&differ);
+            }
+            let found = |line: &&&Line| {
+                let given = program_answer(&mut Own { slip }, &line.call, crate::calls::FILL);
+                given.as_ref() != Ok(&line.answer)
+            };
+            let found = lines.iter().filter(found).count();
+            assert_eq!(found > 0, !slip.is_empty(), "{slip} in the test lines");
+        }
+    }
+
+    /// The draws reach each thing that is counted, and every number that refuses a spin-up.
+    fn reaches_all(differ: &Differ) {
+        let Rules {
+            years,
+            pools_alone,
+            total_alone,
+            beside,
+            earlier,
+            instead,
+            first,
+            later,
+            refused_later,
+        } = differ.rules;
+        let by_rule = [pools_alone, total_alone, beside, earlier, instead];
+        let by_end = [first, later, refused_later];
+        let mut times = by_rule.iter().chain(&by_end);
+        assert!(
+            years > 10_000 && times.all(|times| *times >= 20),
+            "{:?}",
+            differ.rules
+        );
+        for number in [0, 3, 4, 5, 6, 7, 9, 10, 12, 13, 14, 15, 16, 17, 19, 21] {
+            assert!(differ.seen.contains_key(&("spin-up", number)), "{number}");
         }
     }
 

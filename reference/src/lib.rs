@@ -9,6 +9,8 @@ pub mod differ;
 pub mod exponential;
 pub mod fixed;
 pub mod fraction;
+pub mod light;
+pub mod measured;
 pub mod memory;
 pub mod model;
 pub mod recurrence;

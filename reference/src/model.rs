@@ -34,7 +34,8 @@ pub const OUTPUT_NUMBERS: usize = 7;
 pub const YEAR_LIMIT: i128 = 10_000;
 /// Most states kept beside the current one (10).
 pub const KEPT_LIMIT: usize = 24;
-/// A spin-up year settles at this change of the total or less, in grams.
+/// A spin-up's year settles where the total and each pool end it at most so many grams from where
+/// it began.
 pub const SETTLED: u128 = 1_000;
 
 /// The sources of a month's evaporation (19): an open pan, as in books, or potential
@@ -582,6 +583,25 @@ pub enum Spun {
     Unsettled(u64),
 }
 
+/// A rule for which years settle, of the soils with which a year begins and ends.
+pub type Settles = fn(&Soil, &Soil) -> bool;
+
+/// The total of the five pools alone: the whole rule before change 2026-05, kept for comparing.
+pub fn total_settles(start: &Soil, end: &Soil) -> bool {
+    start.total().abs_diff(end.total()) <= SETTLED
+}
+
+/// Each of the five pools.
+pub fn pools_settle(start: &Soil, end: &Soil) -> bool {
+    let active = (0..4).all(|pool| start.pools[pool].abs_diff(end.pools[pool]) as u128 <= SETTLED);
+    active && start.inert.abs_diff(end.inert) as u128 <= SETTLED
+}
+
+/// The rule: the total and each of the five pools.
+pub fn year_settles(start: &Soil, end: &Soil) -> bool {
+    total_settles(start, end) && pools_settle(start, end)
+}
+
 /// Spin-up with none kept. Order: 3, 4 to 7, 9, 10 with place 0, then month by month 12 and those
 /// of its entries, the place counted over all years. A refusal returns the starting state.
 pub fn spin_up(
@@ -616,9 +636,24 @@ pub fn spin_up_watched(
     if let Err(cause) = outside() {
         return (state.clone(), Err(Refusal { cause, place: 0 }));
     }
+    let years = years as u64;
+    run_years(year_settles, state, weather, land, years, survival, watch)
+}
+
+/// The years of a spin-up that nothing outside its months refuses, up to the first that settles by
+/// this rule.
+pub fn run_years(
+    settles: Settles,
+    state: &State,
+    weather: &[i64],
+    land: &[i64],
+    years: u64,
+    survival: &mut dyn Survival,
+    watch: Watch,
+) -> (State, Result<Spun, Refusal>) {
     let mut current = state.clone();
-    for year in 1..=years as u64 {
-        let start = current.soil.total();
+    for year in 1..=years {
+        let start = current.soil.clone();
         for j in 1..=12 {
             let entries = list_entries(weather, land, j);
             if let Err(cause) = check_month(&current, &entries) {
@@ -633,11 +668,11 @@ pub fn spin_up_watched(
             watch(&current, &entries);
             current = run_month(&current, &entries, survival).0;
         }
-        if current.soil.total().abs_diff(start) <= SETTLED {
+        if settles(&start, &current.soil) {
             return (current, Ok(Spun::Settled(year)));
         }
     }
-    (current, Ok(Spun::Unsettled(years as u64)))
+    (current, Ok(Spun::Unsettled(years)))
 }
 
 /// What a radiocarbon report can be asked of: a pool, or all five together.
@@ -1188,7 +1223,7 @@ mod tests {
         let state = State::new(soil(0, 1, 2, [10, 20, 30, 40], 5));
         let (next, answer) = spin_up(&state, &frost, &bare, 10, &mut Nearest);
         assert_eq!((answer, next.months), (Ok(Spun::Settled(1)), 12));
-        // 1,000 g a year settles, 1,001 doesn't.
+        // 1,000 g a year settles, 1,001 doesn't. No pool gets as much.
         let mut land = bare.clone();
         land[1] = 1_000;
         assert_eq!(
@@ -1253,6 +1288,117 @@ mod tests {
             (answer, next.months),
             (Ok(Spun::Unsettled(10_000)), 120_000)
         );
+    }
+
+    /// Which years settle, by each pool alone and by the total alone, up and down.
+    #[test]
+    fn years_that_settle() {
+        let start = soil(234, 23, 1, [5_000, 6_000, 7_000, 8_000], 9_000);
+        // Five changes, IOM's last, one way and the other.
+        let rules = |changes: [i64; 5]| {
+            let both = [1, -1].map(|sign| {
+                let after = |grams: u64, change: i64| grams.saturating_add_signed(sign * change);
+                let mut end = start.clone();
+                end.pools = std::array::from_fn(|pool| after(start.pools[pool], changes[pool]));
+                end.inert = after(start.inert, changes[4]);
+                let rules: [Settles; 3] = [total_settles, pools_settle, year_settles];
+                rules.map(|rule| {
+                    // Where a year begins and where it ends can be changed over.
+                    assert_eq!(rule(&start, &end), rule(&end, &start));
+                    rule(&start, &end)
+                })
+            });
+            assert_eq!(both[0], both[1], "{changes:?}");
+            both[0]
+        };
+        assert_eq!(rules([0; 5]), [true; 3]);
+        // Each of the five pools at 1,000 and 1,001, the total within 1,000 by the next pool.
+        for pool in 0..5 {
+            for (change, holds) in [(1_000, true), (1_001, false), (3_000, false)] {
+                for total in [0, 1_000, -1_000] {
+                    let mut changes = [0i64; 5];
+                    changes[pool] = change;
+                    changes[(pool + 1) % 5] = (total - change) / 2;
+                    changes[(pool + 2) % 5] = total - change - (total - change) / 2;
+                    if changes.iter().any(|other| other.abs() > change) {
+                        continue;
+                    }
+                    assert_eq!(rules(changes), [true, holds, holds], "{changes:?}");
+                }
+            }
+        }
+        // Each pool within 1,000, the total 1,000 and more.
+        for (changes, holds) in [
+            ([200, 200, 200, 200, 200], true),
+            ([200, 200, 200, 201, 200], false),
+            ([1_000, 0, 0, 0, 0], true),
+            ([1_000, 0, 0, 1, 0], false),
+            ([1_000, 1_000, -1_000, 0, 0], true),
+            ([1_000, 1_000, -999, 0, 0], false),
+            ([0, 0, 1_000, 1_000, 0], false),
+            ([1_000, 1_000, 0, 1_000, 0], false),
+            ([1_000, 1_000, 1_000, 1_000, 0], false),
+            ([1_000, 1_000, 1_000, 1_000, 1_000], false),
+        ] {
+            assert_eq!(rules(changes), [holds, true, holds], "{changes:?}");
+        }
+        // Neither, and residue that falls while humus rises by as much.
+        assert_eq!(rules([0, 1_001, 0, 0, 0]), [false; 3]);
+        for (changes, holds) in [
+            ([0, -1_000, 0, 1_000, 0], true),
+            ([0, -1_001, 0, 1_001, 0], false),
+            ([0, -2_500, 500, 2_000, 0], false),
+        ] {
+            assert_eq!(rules(changes), [true, holds, holds], "{changes:?}");
+        }
+        // Nothing else of a soil is asked, and no difference wraps.
+        let other = soil(0, 1, 3, start.pools, start.inert);
+        assert!(year_settles(&start, &other));
+        let most = soil(0, 1, 3, [u64::MAX, 0, u64::MAX, 0], 0);
+        let none = soil(0, 1, 3, [0, u64::MAX, 0, u64::MAX], 0);
+        assert!(total_settles(&most, &none) && !pools_settle(&most, &none));
+    }
+
+    /// One loop by both rules: a field whose residue falls while its humus rises.
+    #[test]
+    fn years_by_both_rules() {
+        // July in the first month, frost in the others, 40 kg of plant carbon.
+        let weather = [&[160, 500, 0, 0], &[-60, 0, 0, 0].repeat(11)[..]].concat();
+        let land = [&[1, 40_000, 0, 1_000], &[0, 0, 0, 1_000].repeat(11)[..]].concat();
+        let state = State::new(soil(60, 23, 1, [36_000, 700_000, 54_000, 1_400_000], 9));
+        let rules: [Settles; 3] = [total_settles, year_settles, |_, _| false];
+        let mut ends = Vec::new();
+        for settles in rules {
+            let mut starts = Vec::new();
+            let (next, answer) = run_years(
+                settles,
+                &state,
+                &weather,
+                &land,
+                400,
+                &mut Nearest,
+                &mut |before, _| {
+                    if before.months % 12 == 0 {
+                        starts.push(before.soil.clone());
+                    }
+                },
+            );
+            let (Ok(Spun::Settled(years)) | Ok(Spun::Unsettled(years))) = answer else {
+                panic!("{answer:?}")
+            };
+            assert_eq!((next.months, starts.len()), (12 * years, years as usize));
+            starts.push(next.soil.clone());
+            // The first year that settles, and no year before it.
+            let first = starts
+                .windows(2)
+                .position(|year| settles(&year[0], &year[1]));
+            let settled = (answer == Ok(Spun::Settled(years))).then_some(years as usize - 1);
+            assert_eq!(first, settled);
+            ends.push((next, answer));
+        }
+        assert!(ends[0].0.months < ends[1].0.months && ends[1].0.months < ends[2].0.months);
+        assert_eq!(ends[2].1, Ok(Spun::Unsettled(400)));
+        assert_eq!(spin_up(&state, &weather, &land, 400, &mut Nearest), ends[1]);
     }
 
     #[test]

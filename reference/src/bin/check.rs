@@ -1,6 +1,6 @@
 //! Asserts the known figures of document 01, the Rothamsted deficit table of 001, January 1852 byte
-//! by byte, and 001's radiocarbon; then demand 3 on long lists, also with months taken back. Stops
-//! at the first that is wrong.
+//! by byte, 001's radiocarbon, and the years of three spin-ups; then demand 3 on long lists, also
+//! with months taken back. Stops at the first that is wrong.
 
 use reference::book;
 use reference::exponential::{
@@ -8,10 +8,11 @@ use reference::exponential::{
     survival_floor, temperature_factor, within, BILLION, MEAN_LIFE, OLDEST,
 };
 use reference::fixed::{book_fixed, month_fixed, report_fixed};
+use reference::light::{self, shifted, Known};
 use reference::model::{
     dated, factors, list, moisture_factor, month, month_left, report, split_manure, split_plant,
-    Asked, Dated, Entries, Nearest, Soil, State, Survival, EVAPOTRANSPIRATION, FRESH, OPEN_PAN,
-    RATES,
+    Asked, Dated, Entries, Nearest, Soil, Spun, State, Survival, EVAPOTRANSPIRATION, FRESH,
+    OPEN_PAN, RATES,
 };
 use reference::recurrence::{
     carbon_closes, distance_every_q, distance_interval, q_highest, q_lowest, run_calls, Decision,
@@ -29,6 +30,7 @@ fn main() {
     radiocarbon_of_001();
     equilibrium_of_001();
     reports();
+    settled_years();
     demand_three();
     months_taken_back();
     println!("all figures hold");
@@ -378,6 +380,27 @@ fn reports() {
     }
     assert!(compared > 19_000);
     println!("reports: {compared} ages against the paper's sums");
+}
+
+/// The years of the light fields' spin-ups and of Hoosfield's, by the total alone and by the rule,
+/// and what the example says of the light fields.
+fn settled_years() {
+    let fields = light::fields().expect("the books of the light fields");
+    let hoosfield = light::hoosfield();
+    let wanted = [[3, 566], [8, 576], [625, 625]];
+    for (field, wanted) in fields.iter().chain([&hoosfield]).zip(wanted) {
+        for shift in [-1, 0, 1] {
+            let years = field.years(&mut Known::new(&mut shifted(shift)));
+            assert_eq!(years, wanted.map(Spun::Settled), "{}", field.name);
+        }
+        println!(
+            "{}: settled after {} years by the total alone, {} by each pool too",
+            field.name, wanted[0], wanted[1]
+        );
+    }
+    let example = concat!(env!("CARGO_MANIFEST_DIR"), "/../examples/light/settled.out");
+    let text = std::fs::read_to_string(example).expect("examples/light/settled.out");
+    assert_eq!(light::settled(&fields), text);
 }
 
 /// Demand 3 on lists of 120,000 accepted months with refused calls among them.

@@ -2,6 +2,7 @@
 //! `differ [seed [times]]`. The last line is `N compared, N differ`; status 1 if any differ.
 
 use reference::differ::{Counts, Differ, Program};
+use reference::light;
 use std::path::{Path, PathBuf};
 use std::process::ExitCode;
 use std::time::Instant;
@@ -196,6 +197,7 @@ fn examples() -> std::io::Result<Vec<(String, Vec<u8>, Vec<u8>)>> {
     let mut found = Vec::new();
     for part in [
         folder.clone(),
+        folder.join("light"),
         folder.join("refused"),
         folder.join("tables"),
     ] {
@@ -249,9 +251,9 @@ fn main() -> ExitCode {
     let start = Instant::now();
     let mut progress = |text: &str| eprintln!("{:6.1} s  {text}", start.elapsed().as_secs_f64());
     let mut library = Library;
-    let examples = match examples() {
-        Ok(examples) => examples,
-        Err(error) => {
+    let (examples, fields) = match (examples(), light::fields()) {
+        (Ok(examples), Ok(fields)) => (examples, fields),
+        (Err(error), _) | (_, Err(error)) => {
             eprintln!("the examples: {error}");
             return ExitCode::from(2);
         }
@@ -259,6 +261,9 @@ fn main() -> ExitCode {
     let mut differ = Differ::new(&mut library, seed, &mut progress);
     for (name, book, output) in &examples {
         differ.example(name, book, output);
+    }
+    for field in fields.iter().chain([&light::hoosfield()]) {
+        differ.light(field);
     }
     differ.run(&counts);
     for input in &differ.first {
