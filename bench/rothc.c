@@ -88,6 +88,9 @@ static void month(field *f, const int64_t *w, const int64_t *l) {
 static const field hoosfield = {
     {0.1533, 4.4852, 0.6671, 25.8576}, {0.1533, 4.4852, 0.6671, 25.8576}, 2.7, 0, 0};
 
+// Hoosfield's soil after scrub was ploughed in: much residue, little humus.
+static const field scrub = {{0.2, 13, 0.4, 8}, {0.2, 13, 0.4, 8}, 2.7, 0, 0};
+
 // The same month on carbon alone: the work of libraries before change 2026-04. It stays as it was
 // then, so that their ratios to it can be compared with those measured at the time. (By pointer, as
 // above, it would be a tenth or more faster.)
@@ -214,7 +217,7 @@ static int read_table(const char *text, double *weather) {
 // the second that of changes 2026-02 and 2026-03, without modern grams and activity.
 typedef struct {
   size_t state, entries, row;
-  int64_t land[ROTHC_MOST_ROWS * ROTHC_LAND], residue[12 * ROTHC_LAND];
+  int64_t land[ROTHC_MOST_ROWS * ROTHC_LAND], residue[12 * ROTHC_LAND], crop[12 * ROTHC_LAND];
 } layout;
 
 enum { LAYOUTS = 2 };
@@ -237,6 +240,8 @@ typedef struct {
 
 static const uint64_t hoosfield_soil[ROTHC_SOIL] = {234,    23,       1,      153300, 4485200,
                                                     667100, 25857600, 2700000};
+static const uint64_t scrub_soil[ROTHC_SOIL] = {234,    23,      1,      200000, 13000000,
+                                                400000, 8000000, 2700000};
 
 static void *function(void *object, const char *name) {
   void *found = dlsym(object, name);
@@ -447,14 +452,48 @@ static void proved_spin_up(int n) {
   expect(state[ROTHC_STATE_MONTHS] == (uint64_t)n, "a spin-up settled");
 }
 
+// A year in ordinary C, and whether it settles: the total and each pool within a thousandth of a
+// tonne of where the year began.
+static int near(double start, double end) { return fabs(end - start) <= 0.001; }
+
+static int year_settles(field *f, const int64_t *weather, const int64_t *land) {
+  const field start = *f;
+  const pools *a = &start.carbon, *b = &f->carbon;
+  for (int m = 0; m < 12; m++) month(f, weather + ROTHC_WEATHER * m, land + ROTHC_LAND * m);
+  return near(total(&start), total(f)) && near(a->dpm, b->dpm) && near(a->rpm, b->rpm) &&
+         near(a->bio, b->bio) && near(a->hum, b->hum) && near(start.iom, f->iom);
+}
+
 static void plain_spin_up(int n) {
   field f = hoosfield;
-  for (int year = 0; year < n / 12; year++) {
-    double start = total(&f);
-    for (int m = 0; m < 12; m++)
-      month(&f, cold + ROTHC_WEATHER * m, layouts[0].residue + ROTHC_LAND * m);
-    expect(fabs(total(&f) - start) > 0.001, "a floating-point spin-up settled");
-  }
+  for (int year = 0; year < n / 12; year++)
+    expect(!year_settles(&f, cold, layouts[0].residue), "a floating-point spin-up settled");
+  floats += total(&f) + active(&f.modern);
+}
+
+// A spin-up until it settles, of a field where scrub was ploughed in: residue falls while humus
+// rises, and the total stands still long before the pools do: 7,284 months, 607 years, by both
+// sides.
+enum { SETTLING = 7284, MOST_YEARS = 10000 };
+
+static uint64_t settle(const library *one) {
+  uint64_t state[ROTHC_STATE], result[ROTHC_RESULT];
+  const layout *l = one->layout;
+  expect(one->start(scrub_soil, ROTHC_SOIL, state, l->state) == 0, "a field was refused");
+  one->spin_up(state, l->state, rothamsted, 12 * ROTHC_WEATHER, l->crop, 12 * l->row, MOST_YEARS,
+               result, ROTHC_RESULT);
+  return state[ROTHC_STATE_MONTHS];
+}
+
+static void proved_settling(int n) {
+  expect(settle(&lib) == (uint64_t)n, "a spin-up settled in another year");
+}
+
+static void plain_settling(int n) {
+  field f = scrub;
+  int months = 12;
+  while (!year_settles(&f, rothamsted, layouts[0].crop)) months += 12;
+  expect(months == n, "a floating-point spin-up settled in another year");
   floats += total(&f) + active(&f.modern);
 }
 
@@ -554,6 +593,8 @@ static const struct job {
      carbon_spin_up, CARBON_ALONE, 12000, 1},
     {"spin10000", "a month of a spin-up of 10,000 years", 0, proved_spin_up, plain_spin_up,
      carbon_spin_up, CARBON_ALONE, 120000, 1},
+    {"settling", "a month of a spin-up until it settles", 0, proved_settling, plain_settling, 0, 0,
+     SETTLING, 1},
     {"radiocarbon", "a radiocarbon report on all five pools", 0, proved_all, plain_all, halves_all,
      BY_HALVES, NUMBERS, 1},
     {"radiocarbon-hum", "a radiocarbon report on HUM", 0, proved_hum, plain_hum, halves_hum,
@@ -564,9 +605,11 @@ static const struct job {
 };
 enum { JOBS = sizeof jobs / sizeof *jobs };
 
-// A library of before change 2026-03 has no terms to count, one of before 2026-04 no reports.
+// A library of before change 2026-03 has no terms to count, one of before 2026-04 no reports, and
+// one of before 2026-05 settles by the total alone, in another year.
 static int makes(const library *one, const struct job *job) {
   if (job->proved == proved_terms) return one->survival_terms != 0;
+  if (job->proved == proved_settling) return settle(one) == SETTLING;
   if (job->proved == proved_all || job->proved == proved_hum) return one->radiocarbon != 0;
   return 1;
 }
@@ -583,6 +626,9 @@ static void set_up_rows(layout *l) {
   for (int m = 0; m < 12; m++) {
     int64_t row[ROTHC_LAND] = {crops_of(m)[0], 100000, 0, 1000};
     memcpy(l->residue + l->row * m, row, l->row * sizeof *row);
+    // 0.26 t a month under a crop, from January to July and in December
+    int64_t cropped[ROTHC_LAND] = {m < 7 || m == 11, m < 7 || m == 11 ? 260000 : 0, 0, 1000};
+    memcpy(l->crop + l->row * m, cropped, l->row * sizeof *cropped);
   }
 }
 

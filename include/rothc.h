@@ -253,10 +253,13 @@ uint64_t rothc_list(uint64_t *state, size_t state_len, const int64_t *weather, s
                     const int64_t *land, size_t land_len, uint64_t *rows, size_t rows_len,
                     uint64_t *place);
 
-/* Repeats twelve weather and twelve land rows, year after year, until the first year whose end
- * total (five pools) is at most 1,000 g from the total at its start, or until the years are run,
- * and leaves the state reached, settled or not, with none kept: the kept count is 0, and the places
- * stay as they were.
+/* Repeats twelve weather and twelve land rows, year after year, until the first year that settles,
+ * or until the years are run. A year settles where the total of the five pools, and each of them,
+ * are at its end at most 1,000 g from where it began, up or down (change 2026-05; until then the
+ * total alone counted, and a spin-up could stop while residue fell and humus rose by as much: it
+ * may now need more years, or come to a month that is refused). Leaves the state reached, settled
+ * or not, with none kept: the kept count is 0, and the places stay as they were. docs/MODEL.md says
+ * how far from its end a settled field can still be.
  * state: ROTHC_STATE numbers. weather: 48 numbers, land: 48, as in a list. years: those allowed, 1
  * to 10,000. result: ROTHC_RESULT numbers: 1 for settled or 0 for unsettled, and the years run.
  * Refusals: ROWS, CLAY to CARBON, YEARS, STATE_BOUNDS, and for one of the months MONTH_LIMIT to
