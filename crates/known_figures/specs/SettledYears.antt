@@ -10,7 +10,19 @@ use Rattle.spin_up.specs.SpinUp.{spin_up}
 use Rattle.spin_up.specs.Reached.{after_years}
 use Rattle.spin_up.specs.Settled.{SettledByTotal, TotalCounts, PoolsCount}
 
--- ---- rows
+-- ---- fields and rows
+
+-- A new field of 23 cm under crops: its clay, its active pools and IOM.
+abbrev pub field : ℕ → ℕ → ℕ → ℕ → ℕ → ℕ → State
+field clay dpm rpm bio hum iom =
+    new_state
+    (record {
+      clay = clay;
+      depth = 23;
+      kind = 1;
+      pools = grams dpm ∷ grams rpm ∷ grams bio ∷ grams hum ∷ [];
+      iom = grams iom;
+    })
 
 -- A month's weather, from an open pan, and its land with fresh plant carbon and no manure.
 abbrev pub weather : ℕ → ℕ → ℕ → List ℤ
@@ -35,30 +47,14 @@ frost = months_of 12 (negsuc 59 ∷ pos 0 ∷ pos 0 ∷ pos 0 ∷ [])
 abbrev pub january_alone : List ℤ
 january_alone = land 0 1500 ++ months_of 11 (land 0 0)
 
--- A new field without carbon.
+-- Without carbon.
 abbrev pub empty : State
-empty =
-    new_state
-    (record {
-      clay = 0;
-      depth = 23;
-      kind = 1;
-      pools = grams 0 ∷ grams 0 ∷ grams 0 ∷ grams 0 ∷ [];
-      iom = grams 0;
-    })
+empty = field 0 0 0 0 0 0
 
 -- ---- Warren Close: the field, the weather and the cropping of examples/light/warren-close.book
 
 abbrev pub warren_close : State
-warren_close =
-    new_state
-    (record {
-      clay = 40;
-      depth = 23;
-      kind = 1;
-      pools = grams 200000 ∷ grams 7500000 ∷ grams 400000 ∷ grams 8000000 ∷ [];
-      iom = grams 1500000;
-    })
+warren_close = field 40 200000 7500000 400000 8000000 1500000
 
 abbrev pub rothamsted : List ℤ
 rothamsted =
@@ -84,7 +80,7 @@ cropping = months_of 7 (land 1 260000) ++ months_of 4 (land 0 0) ++ land 1 26000
 pub record SettledYears : Type 0 where
   -- The total is a condition of its own: 885 g of DPM and 615 g of RPM more.
   pub total_counts : TotalCounts frost january_alone empty
-  -- The pools are: Warren Close's third year.
+  -- So are the pools: Warren Close's third year.
   pub pools_count : PoolsCount rothamsted cropping (after_years 2 rothamsted cropping warren_close)
   -- By the total alone it settled in that year, ..
   pub by_total : SettledByTotal rothamsted cropping 10000 warren_close 3
