@@ -49,8 +49,8 @@ fn pools_settle(start: Soil, end: Soil) -> bool
         && near(start.iom, end.iom)
 }
 
-// Whether a year settles, from its start to its end. It is asked once in twelve months: in line, it
-// made the loop's function longer and nothing faster.
+// Whether a year settles, from its start to its end, asked once in twelve months. In line, it moved
+// the code of tables, which stands behind the loop's, and that took longer (docs/LANDINGS.md).
 #[inline(never)]
 #[tactic(auto, using(crate::proofs::Laws::small), unfolding(crate::specs::SpinUp::settles))]
 fn settles(start: CheckedState, end: CheckedState) -> bool
