@@ -31,6 +31,12 @@ abbrev pub refused_at : Refusal → ℕ → State → List ℕ → Left
 refused_at refusal place s out =
     record { outcome = record { answer = Err (refusal on place); state = s }; output = out }
 
+-- The answer of a list that ends with a month's answer: finished, or the month's refusal at its
+-- place.
+abbrev pub ended : Answer → ℕ → ListAnswer
+ended (Ok row) place = Ok tt
+ended (Err refusal) place = Err (refusal on place)
+
 -- After the month at place j, counted from 0: refused, the list stops there with the state and the
 -- rows before it; else its row is written, and the later months follow.
 abbrev pub onward : Answer → State → ℕ → List ℕ → (State → List ℕ → Left) → Left

@@ -6,7 +6,7 @@
 ghost use Rattle.std.specs.Prelude.{◌≡◌, ◌*◌, ◌≤◌, length};
 ghost use Rattle.list_rows.specs.Rows.{weather_width, land_width, row_width, land_rows};
 ghost use Rattle.month_refusals.specs.Asked.{Finds, told, Exactly, placed_found, placed_told};
-ghost use Rattle.list_run.specs.Run.{months, rows_written, kept_months};
+ghost use Rattle.list_run.specs.Run.{ended, months, rows_written, kept_months};
 ghost use Rattle.list_run.specs.Run.{before_months, list_asked, run};
 ghost use Rattle.list_run.specs.ListCalls.{FieldOfCalls};
 
@@ -14,7 +14,7 @@ use kept_months::keep;
 use list_rows::{
     LAND_WIDTH, ROW_WIDTH, WEATHER_WIDTH, entries_at, next_weather, put_row, rows_outside,
 };
-use month_call::list_month;
+use month_call::{Answer, list_month};
 use month_layouts::MEMORY_WIDTH;
 use month_refusals::{CheckedState, Refusal, RefusedAt, check_bounds, check_soil};
 use month_state::{Outcome, State};
@@ -22,6 +22,16 @@ use month_state::{Outcome, State};
 // A list's answer: it ran to its end, or it was refused at a place: 0, or the month counted from
 // its first.
 pub type ListAnswer = Result<(), RefusedAt>;
+
+// The answer of a list that ends with a month's answer, at that month's place.
+fn ended(answer: Answer, place: u64) -> ListAnswer
+    ensures { result ≡ ended answer place }
+{
+    match answer {
+        Ok(_) => Ok(()),
+        Err(refusal) => Err(refusal.on(place)),
+    }
+}
 
 // So many months from the first, their rows written as they run, and the state before each kept.
 // The first refusal ends them. Whoever hands no memory on (a book, a spin-up) lends some for the
@@ -54,14 +64,11 @@ pub fn run_months(
     let mut i = 0;
     for j in 0..count {
         let month = list_month(state, entries_at(weather, land, i, j));
-        let row = match month.answer {
-            Ok(row) => row,
-            Err(refusal) => {
-                return Outcome {
-                    answer: Err(refusal.on(j as u64 + 1)),
-                    state: month.state,
-                };
-            }
+        let Ok(row) = month.answer else {
+            return Outcome {
+                answer: ended(month.answer, j as u64 + 1),
+                state: month.state,
+            };
         };
         put_row(out, j, row);
         keep(state.state, memory);

@@ -3,9 +3,9 @@
 use Rattle.std.proofs.Common.{◌≡◌, ◌∙◌, ap, ◌+◌, ◌-◌, arith}
 use native.Mathlib.Nat.{mod-add-mod}
 use Rattle.month_state.proofs.Counting.{none_left}
-use Rattle.month_call.specs.Month.{list_month}
+use Rattle.month_call.specs.Month.{Answer, list_month}
 use Rattle.list_rows.specs.Rows.{weather_rows}
-use Rattle.list_run.specs.Run.{months, kept_months}
+use Rattle.list_run.specs.Run.{ended, months, kept_months}
 use Rattle.list_run.proofs.Laws.{month_more, month_last, month_kept, kept_now}
 use Rattle.list_run.proofs.run_months.Goals as goal
 
@@ -25,18 +25,19 @@ loop-j-preserved c =
     }
 
 -- A month that is refused ends the list, and those before it are kept.
-pub returns-in-Err : goal.returns-in-Err
-returns-in-Err c =
+pub returns-in_default : goal.returns-in_default
+returns-in_default c =
     let a = c.args in
     let l = c.loop-j in
     let is = c.list_month-month.ensures ∙ ap (list_month l.state.state) c.entries_at.ensures in
     let ran : l.j + 1 - 1 ≡ l.j = omega arith in
+    let ends = c.ended.ensures ∙ ap (λ (answer : Answer). ended answer (l.j + 1)) c.in_default.is in
     record {
       left =
-          rw c.on.ensures
-          (month_last a.weather.now a.land.now l.state.state l.out c.loop-j-test.true is c.in-Err.is l.invariant.whole);
+          rw ends
+          (month_last a.weather.now a.land.now l.state.state l.out c.loop-j-test.true is c.in_default.is l.invariant.whole);
       kept =
-          rw c.on.ensures
+          rw ends
           (kept_now a.weather.now a.land.now l.state.state
           (λ n. kept_months n a.weather.now a.land.now 0 a.s.state a.memory.now) ran l.invariant.kept);
     }
