@@ -8,7 +8,7 @@ ghost use Rattle.book_rows.specs.Rows.{LineFits, as_weather, weather_row, land_r
 ghost use Rattle.book_rows.specs.Rows.{weather_gives, land_gives, row_gives, read_rows, begun_with};
 
 use book_lines::{WeatherNumbers, land_line, weather_line};
-use list_rows::{land_numbers, put_numbers, weather_numbers};
+use list_rows::{LAND_WIDTH, WEATHER_WIDTH, land_numbers, put_numbers, weather_numbers};
 use month_checks::check_weather;
 use month_refusals::{Refusal, RefusedAt};
 use month_state::{Land, Weather};
@@ -40,13 +40,13 @@ pub fn as_weather(
     Ok((row, next))
 }
 
-// A kind of line that is a row of four numbers.
+// A kind of line that is a row. A land row is as wide as a weather row.
 pub trait RowLine {
     // What the line of this number, at a place of a text, gives.
     ghost gives: { List ℕ → ℕ → ℕ → RowGives };
 
     // The row's numbers with the place of the next line, or why it is refused.
-    fn row(s: &[u8], place: usize, line: u64) -> Result<([i64; 4], usize), Refusal>
+    fn row(s: &[u8], place: usize, line: u64) -> Result<([i64; WEATHER_WIDTH], usize), Refusal>
         ensures { row_gives result ≡ gives s.now place line };
 }
 
@@ -56,7 +56,7 @@ pub struct WeatherOfBook;
 impl RowLine for WeatherOfBook {
     ghost gives = { λ s place line. weather_gives (weather_row s place) };
 
-    fn row(s: &[u8], place: usize, _line: u64) -> Result<([i64; 4], usize), Refusal> {
+    fn row(s: &[u8], place: usize, _line: u64) -> Result<([i64; WEATHER_WIDTH], usize), Refusal> {
         let (weather, next) = as_weather(Refusal::Form, OPEN_PAN, weather_line(s, place))?;
         Ok((weather_numbers(weather), next))
     }
@@ -68,7 +68,7 @@ pub struct LandOfBook;
 impl RowLine for LandOfBook {
     ghost gives = { λ s place line. land_gives (land_row s place) };
 
-    fn row(s: &[u8], place: usize, _line: u64) -> Result<([i64; 4], usize), Refusal> {
+    fn row(s: &[u8], place: usize, _line: u64) -> Result<([i64; LAND_WIDTH], usize), Refusal> {
         let (numbers, next) = land_line(s, place).ok_or(Refusal::Form)?;
         let land = Land {
             cover: numbers.cover as i64,

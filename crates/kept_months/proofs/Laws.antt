@@ -32,18 +32,21 @@ keep-length s memory = length-sets memory (kept_width * place_of s.months) (kept
 
 -- The part of the memory that begins at a place.
 abbrev part_at : List ℕ → ℕ → List ℕ
-part_at memory place = take (memory_width - kept_width * place) (drop (kept_width * place) memory)
+part_at memory place = take (length memory - kept_width * place) (drop (kept_width * place) memory)
 
-module _ (s : State) (memory : List ℕ) (all : length memory ≡ memory_width) where
+-- The same of memory that has its length, as the code cuts it.
+abbrev cut_at : List ℕ → ℕ → List ℕ
+cut_at memory place = take (memory_width - kept_width * place) (drop (kept_width * place) memory)
+
+module _ (s : State) (memory : List ℕ) where
   -- Put in the part that begins at its place, a state is kept, ..
   pub kept_in_part :
-      {part : List ℕ} → part ≡ sets (part_at memory (place_of s.months)) 0 (kept_numbers s)
-      → put_mid (kept_width * place_of s.months) (memory_width - kept_width * place_of s.months) memory part ≡ keep s memory
+      {part : List ℕ} → length memory ≡ memory_width → part ≡ sets (part_at memory (place_of s.months)) 0 (kept_numbers s)
+      → put_mid (kept_width * place_of s.months) (length memory - kept_width * place_of s.months) memory part ≡ keep s memory
   unfolding keep
-  kept_in_part is =
+  kept_in_part long is =
       let from = kept_width * place_of s.months in
-      ap (put_mid from (memory_width - from) memory) is
-      ∙ ap (λ (n : ℕ). put_mid from (n - from) memory (sets (take (n - from) (drop from memory)) 0 (kept_numbers s))) (sym all)
+      ap (put_mid from (length memory - from) memory) is
       ∙ part_put memory from (kept_numbers s) (omega (arith, kept_of_length s))
 
   -- .. and the latest is read from the part that begins at its.
@@ -53,10 +56,28 @@ module _ (s : State) (memory : List ℕ) (all : length memory ≡ memory_width) 
   unfolding latest
   latest_in_part is =
       let place = (s.months % kept_limit + (kept_limit - 1)) % kept_limit in
+      is ∙ part_read memory (kept_width * place) (s.kept - 1)
+      ∙ ap (λ (place : ℕ). state_from memory (kept_width * place) (s.kept - 1)) (place-before s.months)
+
+-- Both of the part that the code cuts.
+module _ (s : State) (memory : List ℕ) (all : length memory ≡ memory_width) where
+  pub kept_in_cut :
+      {part : List ℕ} → part ≡ sets (cut_at memory (place_of s.months)) 0 (kept_numbers s)
+      → put_mid (kept_width * place_of s.months) (memory_width - kept_width * place_of s.months) memory part ≡ keep s memory
+  kept_in_cut is =
+      let from = kept_width * place_of s.months in
+      ap (put_mid from (memory_width - from) memory) is
+      ∙ ap (λ (n : ℕ). put_mid from (n - from) memory (sets (take (n - from) (drop from memory)) 0 (kept_numbers s))) (sym all)
+      ∙ kept_in_part s memory all refl
+
+  pub latest_in_cut :
+      {before : State} → before ≡ state_from (cut_at memory ((s.months % kept_limit + (kept_limit - 1)) % kept_limit)) 0 (s.kept - 1)
+      → before ≡ latest s memory
+  latest_in_cut is =
+      let place = (s.months % kept_limit + (kept_limit - 1)) % kept_limit in
       is
       ∙ ap (λ (n : ℕ). state_from (take (n - kept_width * place) (drop (kept_width * place) memory)) 0 (s.kept - 1)) (sym all)
-      ∙ part_read memory (kept_width * place) (s.kept - 1)
-      ∙ ap (λ (place : ℕ). state_from memory (kept_width * place) (s.kept - 1)) (place-before s.months)
+      ∙ latest_in_part s memory refl
 
 -- Where taking back is not refused, there is a kept state and at most 24.
 pub some_kept : (s : State) → first_of (take_asked s) ≡ Ok tt → (0 < s.kept) × (s.kept ≤ kept_limit)

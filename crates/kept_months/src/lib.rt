@@ -18,7 +18,7 @@ use month_state::{Entries, Outcome, State};
 pub type TakeAnswer = Result<(), Refusal>;
 
 // A state kept at the place of its months.
-#[tactic(auto, using(crate::proofs::Laws::kept_in_part))]
+#[tactic(auto, using(crate::proofs::Laws::kept_in_cut))]
 pub fn keep(s: State, memory: &mut [u64; MEMORY_WIDTH])
     ensures { memory.new ≡ keep s memory.old }
 {
@@ -59,7 +59,7 @@ fn check_taking(s: State) -> Result<(), Refusal>
 
 // The state before the latest month. A remainder is taken before the sum too, which then can't
 // wrap.
-#[tactic(auto, using(crate::proofs::Laws::latest_in_part))]
+#[tactic(auto, using(crate::proofs::Laws::latest_in_cut))]
 fn latest(s: State, memory: &[u64; MEMORY_WIDTH]) -> State
     requires { 0 < s.kept }
     ensures { result ≡ latest s memory.now }

@@ -25,7 +25,7 @@ impl RowLine for WeatherOfTable {
     ghost gives = { λ s place line. weather_gives (table_row s place line) };
 
     #[tactic(auto, using(crate::proofs::Laws::table_fits), unfolding(crate::specs::Table::table_row))]
-    fn row(s: &[u8], place: usize, line: u64) -> Result<([i64; 4], usize), Refusal> {
+    fn row(s: &[u8], place: usize, line: u64) -> Result<([i64; WEATHER_WIDTH], usize), Refusal> {
         let (w, next) = as_weather(Refusal::TableForm, POTENTIAL, table_line(s, place, line))?;
         Ok((weather_numbers(w), next))
     }

@@ -54,10 +54,18 @@ ends-append xs ys = sum_by-append (λ x. cond (eqb x 10) 1 0) xs ys
 pub none_joined : (xs ys : List ℕ) → line_ends xs ≡ 0 → line_ends ys ≡ 0 → line_ends (xs ++ ys) ≡ 0
 none_joined xs ys e f = omega (arith, ends-append xs ys)
 
--- There are at most as many as bytes, and some where one is there.
+-- There are at most as many as bytes; fewer where a byte is another; and some where one is there.
 pub ends_most : (s : List ℕ) → line_ends s ≤ length s
 unfolding line_ends
 ends_most s = count_by-le-length (λ byte. eqb byte 10) s
+
+pub ends-fewer : (s : List ℕ) (k : ℕ) → k < length s → (get_or s k 10 ≡ 10 → ⊥) → line_ends s < length s
+ends-fewer [] k h e = absurd (omega arith)
+ends-fewer (byte ∷ s) zero h e = omega (arith, other_adds byte s e, ends_most s)
+ends-fewer (byte ∷ s) (suc k) h e = elim (is_end byte) [
+  | inl b ↦ omega (arith, end_adds byte s b, ends-fewer s k (omega arith) e)
+  | inr b ↦ omega (arith, other_adds byte s b, ends_most s)
+]
 
 -- Of the bytes before a place: there are at most as many, and the byte at the place adds one or none.
 pub ends_front : (s : List ℕ) (i : ℕ) → i ≤ length s → line_ends (take i s) ≤ i

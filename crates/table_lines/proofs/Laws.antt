@@ -26,7 +26,8 @@ use Rattle.book_lines.proofs.Numbers.{value_cases}
 use Rattle.table_lines.specs.Lines.{next_tenths, next_signed, numbered, table_line, line_ends, line_count}
 use Rattle.table_lines.specs.LineText.{tenths_text, signed_tenths_text, table_line_text}
 use Rattle.table_lines.proofs.Tenths.{next_read, next_round, next_signed_read, next_signed_round}
-use Rattle.table_lines.proofs.Counting.{is_end, ends_empty, other_adds, ends_some, count-ended, count_open, ends-decimal, ends_tenths, ends_signed}
+use Rattle.table_lines.proofs.Counting.{is_end, ends_empty, other_adds, ends_most, ends-fewer, ends_some}
+use Rattle.table_lines.proofs.Counting.{count-ended, count_open, ends-decimal, ends_tenths, ends_signed}
 use Rattle.table_lines.proofs.Counting.{none_joined, line_counted}
 
 -- A line that was read: its numbers are below their limits, it stands there as it is written, and the next line begins after
@@ -157,4 +158,13 @@ count_none (byte ∷ s) e =
       | inl last ↦
           absurd (omega (arith, count-ended (byte ∷ s) last, ends_some (byte ∷ s) place (omega arith) last))
       | inr last ↦ absurd (omega (arith, count_open (byte ∷ s) last))
+    ]
+
+pub count_most : (s : List ℕ) → line_count s ≤ length s
+count_most [] = rw count_empty (omega arith)
+count_most (byte ∷ s) =
+    let place : ℕ = length (byte ∷ s) - 1 in
+    elim (is_end (get_or (byte ∷ s) place 10)) [
+      | inl last ↦ omega (arith, count-ended (byte ∷ s) last, ends_most (byte ∷ s))
+      | inr last ↦ omega (arith, count_open (byte ∷ s) last, ends-fewer (byte ∷ s) place (omega arith) last)
     ]
