@@ -22,12 +22,16 @@ pub fn write_bytes(out: &mut [u8], at: usize, bytes: &[u8]) -> usize
 }
 
 // Writes a number's decimal digits from a place on, and gives the place after them.
-#[tactic(auto, using(crate::proofs::Digits::decimal_printed))]
+#[tactic(auto, using(crate::proofs::Digits::decimal_small, crate::proofs::Digits::decimal_printed))]
 pub fn write_decimal(out: &mut [u8], at: usize, n: u64) -> usize
     requires { at + length (decimal n) ≤ length out.old }
     ensures place { result ≡ at + length (decimal n) }
     ensures written { out.new ≡ overwritten out.old at (decimal n) }
 {
+    // A number of one digit needs no buffer; many of a book's are 0.
+    if n < 10 {
+        return write_bytes(out, at, &[b'0' + n as u8]);
+    }
     let mut buffer = Buffer::new();
     let digits = buffer.format(n);
     write_bytes(out, at, digits.as_bytes())
