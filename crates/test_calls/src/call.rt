@@ -29,15 +29,12 @@ fn current(state: &Field) -> &[u64] {
     &state[..STATE_WIDTH]
 }
 
-// Reads the current state.
+// Reads the current state into a field, whose kept states stay.
 #[tactic(auto, unfolding(crate::specs::Calls::state_read))]
-fn read_state(reader: &mut Reader) -> Option<Field>
-    ensures { (option_map (λ _. tt) result, reader.new.left.now)
-        ≡ state_read reader.old.left.now }
+fn read_state(reader: &mut Reader, state: &mut Field) -> Option<()>
+    ensures { (result, reader.new.left.now) ≡ state_read reader.old.left.now }
 {
-    let mut state = [7u64; FIELD_WIDTH];
-    reader.numbers(&mut state[..STATE_WIDTH])?;
-    Some(state)
+    reader.numbers(&mut state[..STATE_WIDTH])
 }
 
 // N: a soil's new state.
@@ -49,7 +46,10 @@ fn start(reader: &mut Reader) -> Option<()>
     reader.line_end()?;
     let mut state = [7u64; FIELD_WIDTH];
     let number = rothc_start(&soil, &mut state);
-    Line::new().with(&[number]).with(current(&state)).end();
+    let mut line = Line::new();
+    line.add(&[number]);
+    line.add(current(&state));
+    line.finish();
     Some(())
 }
 
@@ -58,17 +58,18 @@ fn start(reader: &mut Reader) -> Option<()>
 fn month(reader: &mut Reader) -> Option<()>
     ensures { (result, reader.new.left.now) ≡ month_line reader.old.left.now }
 {
-    let mut state = read_state(reader)?;
+    let mut state = [7u64; FIELD_WIDTH];
+    read_state(reader, &mut state)?;
     let number = reader.number()?;
     let entries: [i64; ENTRIES_WIDTH] = reader.array()?;
     reader.line_end()?;
     let mut row = [7u64; ROW_WIDTH];
     let refusal = rothc_month(&mut state, number, &entries, &mut row);
-    Line::new()
-        .with(&[refusal])
-        .with(&row)
-        .with(current(&state))
-        .end();
+    let mut line = Line::new();
+    line.add(&[refusal]);
+    line.add(&row);
+    line.add(current(&state));
+    line.finish();
     Some(())
 }
 
@@ -92,11 +93,11 @@ impl SeriesCall for ListCall {
         let rows = memory.get_mut(..size as usize)?;
         let mut place = 7u64;
         let number = rothc_list(state, weather, land, rows, &mut place);
-        Line::new()
-            .with(&[number, place])
-            .with(current(state))
-            .with(rows)
-            .end();
+        let mut line = Line::new();
+        line.add(&[number, place]);
+        line.add(current(state));
+        line.add(rows);
+        line.finish();
         Some(())
     }
 }
@@ -110,11 +111,11 @@ impl SeriesCall for SpinUpCall {
     fn run(state: &mut Field, weather: &[i64], land: &[i64], years: u64) -> Option<()> {
         let mut result = [7u64; 2];
         let number = rothc_spin_up(state, weather, land, years, &mut result);
-        Line::new()
-            .with(&[number])
-            .with(&result)
-            .with(current(state))
-            .end();
+        let mut line = Line::new();
+        line.add(&[number]);
+        line.add(&result);
+        line.add(current(state));
+        line.finish();
         Some(())
     }
 }
@@ -129,7 +130,8 @@ fn series<S: SeriesCall>(reader: &mut Reader) -> Option<()>
     let mut land = [0i64; LAND_WIDTH * 1_250];
     let land = reader.list(&mut land)?;
     let number = reader.number()?;
-    let mut state = read_state(reader)?;
+    let mut state = [7u64; FIELD_WIDTH];
+    read_state(reader, &mut state)?;
     reader.line_end()?;
     S::run(&mut state, weather, land, number)
 }
@@ -149,12 +151,16 @@ fn put_places(state: &mut Field, base: &[u64; KEPT_WIDTH]) {
 fn take_back(reader: &mut Reader) -> Option<()>
     ensures { (result, reader.new.left.now) ≡ take_back_line reader.old.left.now }
 {
-    let mut state = read_state(reader)?;
+    let mut state = [7u64; FIELD_WIDTH];
+    read_state(reader, &mut state)?;
     let base = reader.array()?;
     reader.line_end()?;
     put_places(&mut state, &base);
     let number = rothc_take_back(&mut state);
-    Line::new().with(&[number]).with(current(&state)).end();
+    let mut line = Line::new();
+    line.add(&[number]);
+    line.add(current(&state));
+    line.finish();
     Some(())
 }
 
@@ -171,7 +177,9 @@ fn survival(reader: &mut Reader) -> Option<()>
     let [n, pool, wanted] = reader.array::<u64, 3>()?;
     reader.line_end()?;
     let s = rothc_survival(n, pool);
-    Line::new().with(&[close(s, wanted)]).end();
+    let mut line = Line::new();
+    line.add(&[close(s, wanted)]);
+    line.finish();
     Some(())
 }
 
@@ -185,9 +193,9 @@ fn survival_terms(reader: &mut Reader) -> Option<()>
     let mut terms = 7u64;
     let s = rothc_survival_terms(n, pool, &mut terms);
     let same = s == rothc_survival(n, pool);
-    Line::new()
-        .with(&[close(s, wanted), u64::from(same), terms])
-        .end();
+    let mut line = Line::new();
+    line.add(&[close(s, wanted), u64::from(same), terms]);
+    line.finish();
     Some(())
 }
 
@@ -196,12 +204,16 @@ fn survival_terms(reader: &mut Reader) -> Option<()>
 fn radiocarbon(reader: &mut Reader) -> Option<()>
     ensures { (result, reader.new.left.now) ≡ radiocarbon_line reader.old.left.now }
 {
-    let state = read_state(reader)?;
+    let mut state = [7u64; FIELD_WIDTH];
+    read_state(reader, &mut state)?;
     let pool = reader.number()?;
     reader.line_end()?;
     let mut report = [7i64; 3];
     let number = rothc_radiocarbon(&state, pool, &mut report);
-    Line::new().with(&[number]).with(&report).end();
+    let mut line = Line::new();
+    line.add(&[number]);
+    line.add(&report);
+    line.finish();
     Some(())
 }
 
@@ -213,7 +225,9 @@ fn age_survival(reader: &mut Reader) -> Option<()>
     let [years, wanted] = reader.array::<u64, 2>()?;
     reader.line_end()?;
     let s = rothc_age_survival(years);
-    Line::new().with(&[close(s, wanted)]).end();
+    let mut line = Line::new();
+    line.add(&[close(s, wanted)]);
+    line.finish();
     Some(())
 }
 
@@ -233,7 +247,10 @@ fn table(reader: &mut Reader) -> Option<()>
     let mut rows = 7u64;
     let mut place = 7u64;
     let number = rothc_table(bytes, weather, &mut rows, &mut place);
-    Line::new().with(&[number, rows, place]).with(weather).end();
+    let mut line = Line::new();
+    line.add(&[number, rows, place]);
+    line.add(weather);
+    line.finish();
     Some(())
 }
 

@@ -110,10 +110,12 @@ pub fn history(reader: &mut Reader) -> Option<()>
     let (acts, _) = reader.list(&mut memory)?.as_chunks();
     reader.line_end()?;
     let mut field = [7u64; FIELD_WIDTH];
-    let mut line = Line::new().with(&[call_number(library_month::start(&soil, &mut field))]);
+    let mut line = Line::new();
+    line.add(&[call_number(library_month::start(&soil, &mut field))]);
     for numbers in acts {
-        line = line.with(&[call_number(act(&mut field, numbers))]);
+        line.add(&[call_number(act(&mut field, numbers))]);
     }
-    line.with(&field).end();
+    line.add(&field);
+    line.finish();
     Some(())
 }

@@ -78,16 +78,25 @@ impl Line {
         }
     }
 
-    // The line with the numbers of a list, each with a space after it. By itoa: what std's Display
-    // puts is promised only where it gives Ok, and nowhere that it does.
-    pub fn with<T: Integer>(mut self, numbers: &[T]) -> Line
-        ensures { unwritten result ≡ with_bytes (unwritten self) (numbers_text T.text numbers.now) }
+    // Adds the numbers of a list, each with a space after it. By itoa: what std's Display puts is
+    // promised only where it gives Ok, and nowhere that it does.
+    pub fn add<T: Integer>(&mut self, numbers: &[T])
+        ensures { unwritten self.new ≡ with_bytes (unwritten self.old)
+            (numbers_text T.text numbers.now) }
     {
         let mut buffer = Buffer::new();
         for number in numbers {
             self.put_all(buffer.format(*number).as_bytes());
             self.put(b' ');
         }
+    }
+
+    // The line with the numbers of a list. A line by value takes other memory, which is filled
+    // anew: test_calls, which writes a line a call, uses `add` and `finish`.
+    pub fn with<T: Integer>(mut self, numbers: &[T]) -> Line
+        ensures { unwritten result ≡ with_bytes (unwritten self) (numbers_text T.text numbers.now) }
+    {
+        self.add(numbers);
         self
     }
 
@@ -100,9 +109,16 @@ impl Line {
         }
     }
 
-    // Writes the line with its end.
-    pub fn end(mut self) {
+    // Writes the line with its end, and leaves one with no bytes.
+    pub fn finish(&mut self)
+        ensures { unwritten self.new ≡ [] }
+    {
         self.put_end();
         self.flush();
+    }
+
+    // Writes the line with its end.
+    pub fn end(mut self) {
+        self.finish();
     }
 }

@@ -1,52 +1,43 @@
--- The digits that a text begins with are text, and their number is parsed.
-use Rattle.std.proofs.Common.{◌≡◌, ◌∙◌, ap, subst, Bor, MatchResult, ℕ, ◌<◌, ◌^◌, Bool, true, false, cond}
-use Rattle.std.proofs.Common.{List, [], ◌∷◌, length, drop, Result, Ok, Err, Some, None, refl, arith}
+-- The digits that a text begins with, and their number.
+use Rattle.std.proofs.Common.{◌≡◌, ◌∙◌, ap, subst, ℕ, ◌+◌, ◌-◌, ◌*◌, ◌<◌, ◌≤◌, ◌^◌, true}
+use Rattle.std.proofs.Common.{List, length, get_or, take, drop, Option, Some, None, arith}
 use Rattle.std.proofs.lemmas.Bool.Decides.{nat_tests}
 use Rattle.std.specs.Char.{is_ascii_digit, digit_value}
-use Rattle.std.specs.List.{prefix_len, take_while}
-use Rattle.std.specs.Str.{IsUtf8}
-use Rattle.std.specs.Str.Parse.{AllDigits, digits_value, ParsesUnsigned}
-use Rattle.std.specs.Result.{OkIff, result_ok}
-use Rattle.std.proofs.lemmas.List.Sums.{take_while-cons, prefix_len-le-length}
-use Rattle.std.proofs.lemmas.Str.{IsUtf8-from_ascii}
-use Rattle.std.proofs.lemmas.Fmt.{IsAscii-from_digits}
-use Rattle.std.proofs.lemmas.Str.Parse.{numerals_by_value, tells_digits, parse_digits}
+use Rattle.std.specs.List.{All, prefix_len, take_while}
+use Rattle.std.specs.Str.Parse.{digits_value}
+use Rattle.std.proofs.lemmas.Int.Digits.{digits_value_more}
+use Rattle.std.proofs.lemmas.List.{get_or-take, length-take-le}
+use Rattle.std.proofs.lemmas.List.Sums.{prefix_len-le-length, prefix_len_passes}
+use Rattle.std.proofs.lemmas.Str.Parse.{digits_value-take-le}
 use Rattle.test_numbers.specs.Numbers.{bytes_read, number_of, digits_read}
 
-digit_small : (byte : ℕ) → is_ascii_digit byte ≡ true → digit_value byte < 10
-digit_small byte h = grind (arith, nat_tests)
+-- Bytes that are digits.
+abbrev pub AreDigits : List ℕ → Type 0
+AreDigits bytes = All (λ byte. is_ascii_digit byte ≡ true) bytes
 
-with_first : (b : Bool) (byte : ℕ) (digits : List ℕ) → (b ≡ true → digit_value byte < 10)
-    → AllDigits 10 digits → AllDigits 10 (cond b (byte ∷ digits) [])
-with_first true byte digits small all = (small refl, all)
-with_first false byte digits small all = tt
+first_digits : (text : List ℕ) → AreDigits (take_while is_ascii_digit text)
+first_digits text k d below =
+    let many = length-take-le (prefix_len is_ascii_digit text) text (prefix_len-le-length is_ascii_digit text) in
+    let early : k < prefix_len is_ascii_digit text = omega (arith, many) in
+    rw (get_or-take (prefix_len is_ascii_digit text) text k d early)
+    (prefix_len_passes is_ascii_digit text k d early)
 
-all_digits : (text : List ℕ) → AllDigits 10 (take_while is_ascii_digit text)
-all_digits [] = tt
-all_digits (byte ∷ text) =
-    rw (take_while-cons is_ascii_digit byte text)
-    (with_first (is_ascii_digit byte) byte (take_while is_ascii_digit text) (digit_small byte) (all_digits text))
+-- ---- what `value` asks
 
-refused : (b : Bool) (n : ℕ) → ¬ (b ≡ true) → None ≡ cond b (Some n) None
-refused true n h = absurd (h refl)
-refused false n h = refl
+-- One more digit.
+pub one_more : (digits : List ℕ) (i n : ℕ) → AreDigits digits → i < length digits
+    → n ≡ digits_value 10 (take i digits)
+    → n * 10 + (get_or digits i 0 - 48) ≡ digits_value 10 (take (i + 1) digits)
+one_more digits i n all below so_far =
+    let digit : is_ascii_digit (get_or digits i 0) ≡ true = all i 0 below in
+    let worth : digit_value (get_or digits i 0) ≡ get_or digits i 0 - 48 = grind (arith, nat_tests) in
+    omega (arith, digits_value_more 10 digits i below)
 
-number_told : {E : Type 0} (digits : List ℕ) (r : Result ℕ E)
-    → OkIff r ((0 < length digits) × (digits_value 10 digits < 2 ^ 64)) (digits_value 10 digits)
-    → result_ok r ≡ number_of digits
-number_told digits (Ok n) h = grind (arith, nat_tests, h.0.0, h.0.1, h.1)
-number_told digits (Err e) h =
-    refused _ _ (λ t. h (grind (arith, nat_tests), grind (arith, nat_tests)))
-
-pub digits_text : (text : List ℕ) → IsUtf8 (take_while is_ascii_digit text)
-digits_text text = IsUtf8-from_ascii _ (IsAscii-from_digits _ (all_digits text))
-
-pub parsed : {E : Type 0} (text : List ℕ) (r : Result ℕ E)
-    → ParsesUnsigned 64 10 (take_while is_ascii_digit text) r
-    → result_ok r ≡ number_of (take_while is_ascii_digit text)
-parsed text r h =
-    number_told _ r
-    (parse_digits (numerals_by_value _ tells_digits) 64 (take_while is_ascii_digit text) r h (all_digits text))
+-- Where the first digits are above 64 bits, all of them are.
+pub above : (digits : List ℕ) (i : ℕ) → 2 ^ 64 ≤ digits_value 10 (take i digits) → None ≡ number_of digits
+above digits i large =
+    let most : 2 ^ 64 ≤ digits_value 10 digits = omega (arith, digits_value-take-le 10 digits i (omega arith)) in
+    grind (arith, nat_tests)
 
 -- ---- what `digits` asks
 
@@ -59,38 +50,20 @@ pub digits_come : (text left : List ℕ) (n : ℕ) → n ≡ prefix_len is_ascii
     → (None, left) ≡ bytes_read n text → ⊥
 digits_come text left n e h = let k = ap (λ p. p.0) (h ∙ digits_there text n e) in absurd cc
 
--- A result that is no Err, and one that is.
-at_ok : {T E : Type 0} (P : T → Type 0) (Q : E → Type 0) (r : Result T E) (x : T)
-    → MatchResult r P Q → Some x ≡ result_ok r → P x
-at_ok P Q (Ok y) x h e = let same : y ≡ x = cc in subst P same h
-at_ok P Q (Err y) x h e = absurd cc
-
-at_err : {T E : Type 0} (P : T → Type 0) (Q : Type 0) (r : Result T E)
-    → MatchResult r P (λ _. Q) → None ≡ result_ok r → Q
-at_err P Q (Ok y) h e = absurd cc
-at_err P Q (Err y) h e = h
-
--- The digits are text.
-pub digits_are_text : {E : Type 0} (valid : E → Type 0) (text bs left : List ℕ) (n : ℕ) (r : Result (Bor (List ℕ)) E)
-    → n ≡ prefix_len is_ascii_digit text → (Some bs, left) ≡ bytes_read n text
-    → MatchResult r (λ s. (s.now ≡ bs) × IsUtf8 bs) (λ e. (¬ (IsUtf8 bs)) × valid e)
-    → None ≡ result_ok r → ⊥
-digits_are_text valid text bs left n (Ok s) e there h none = absurd cc
-digits_are_text valid text bs left n (Err f) e there h none =
+-- They are digits.
+pub bytes_are_digits : (text bytes left : List ℕ) (n : ℕ) → n ≡ prefix_len is_ascii_digit text
+    → (Some bytes, left) ≡ bytes_read n text → AreDigits bytes
+bytes_are_digits text bytes left n e there =
     let k = ap (λ p. p.0) (there ∙ digits_there text n e) in
-    let same : take_while is_ascii_digit text ≡ bs = cc in
-    h.0 (subst IsUtf8 same (digits_text text))
+    let same : take_while is_ascii_digit text ≡ bytes = cc in
+    subst AreDigits same (first_digits text)
 
--- What is parsed is the number of the digits, and the others are left.
-pub digits_parsed : {E F : Type 0} (valid : F → Type 0) (text bs left : List ℕ) (n : ℕ)
-    (t : Result (Bor (List ℕ)) F) (s : Bor (List ℕ)) (r : Result ℕ E)
-    → n ≡ prefix_len is_ascii_digit text → (Some bs, left) ≡ bytes_read n text
-    → MatchResult t (λ s. (s.now ≡ bs) × IsUtf8 bs) (λ e. (¬ (IsUtf8 bs)) × valid e)
-    → Some s ≡ result_ok t
-    → ParsesUnsigned 64 10 s.now r → (result_ok r, left) ≡ digits_read text
+-- Their number is read, and what comes after them is left.
+pub number_is_read : (text bytes left : List ℕ) (n : ℕ) (number : Option ℕ)
+    → n ≡ prefix_len is_ascii_digit text → (Some bytes, left) ≡ bytes_read n text
+    → number ≡ number_of bytes → (number, left) ≡ digits_read text
 unfolding digits_read
-digits_parsed valid text bs left n t s r e there h some value =
+number_is_read text bytes left n number e there value =
     let k = ap (λ p. p.0) (there ∙ digits_there text n e) in
-    let read = (at_ok _ _ t s h some).0 in
-    let same : s.now ≡ take_while is_ascii_digit text = cc in
-    rw (parsed text r (rw same at value), ap (λ p. p.1) (there ∙ digits_there text n e))
+    let same : bytes ≡ take_while is_ascii_digit text = cc in
+    rw (value, same, ap (λ p. p.1) (there ∙ digits_there text n e))

@@ -2,14 +2,13 @@
 // specs/Numbers.antt says of every text what a method gives, and what of the text is left.
 #![tactic(auto)]
 
-ghost use Rattle.std.specs.Prelude.{◌≡◌, Option, List, ℕ, length, option_map};
+ghost use Rattle.std.specs.Prelude.{◌≡◌, Option, true, List, ℕ, length, option_map};
 ghost use Rattle.std.specs.Char.{is_ascii_digit};
-ghost use Rattle.std.specs.List.{prefix_len};
+ghost use Rattle.std.specs.List.{All, prefix_len};
 ghost use Rattle.test_numbers.specs.Numbers.{Read, byte_read, bytes_read, this_byte};
-ghost use Rattle.test_numbers.specs.Numbers.{digits_read, signed_read, number_read, numbers_read};
-ghost use Rattle.test_numbers.specs.Numbers.{array_read, list_read, is_read, begun_with};
-
-use std::str::from_utf8;
+ghost use Rattle.test_numbers.specs.Numbers.{number_of, digits_read, signed_read, number_read};
+ghost use Rattle.test_numbers.specs.Numbers.{numbers_read, array_read, list_read, is_read};
+ghost use Rattle.test_numbers.specs.Numbers.{begun_with};
 
 // What is left to read of a text.
 #[derive(Drop)]
@@ -59,7 +58,7 @@ impl<'a> Reader<'a> {
         ensures { (result, self.new.left.now) ≡ digits_read self.old.left.now }
     {
         let n = digit_count(self.left);
-        from_utf8(self.bytes(n)?).ok()?.parse().ok()
+        value(self.bytes(n)?)
     }
 
     // A space and a number.
@@ -111,6 +110,22 @@ fn digit_count(text: &[u8]) -> usize
     ensures { result ≡ prefix_len is_ascii_digit text.now }
 {
     text.iter().take_while(|byte| byte.is_ascii_digit()).count()
+}
+
+// The number of some digits, None where there are none or it is above 64 bits. It goes over them
+// once: `parse` takes a str, and `from_utf8` would go over them once more.
+fn value(digits: &[u8]) -> Option<u64>
+    requires { All (λ byte. is_ascii_digit byte ≡ true) digits.now }
+    ensures { result ≡ number_of digits.now }
+{
+    if digits.is_empty() {
+        return None;
+    }
+    let mut n = 0u64;
+    for digit in digits {
+        n = n.checked_mul(10)?.checked_add(u64::from(*digit - b'0'))?;
+    }
+    Some(n)
 }
 
 // A number that a reader reads.

@@ -1,7 +1,7 @@
--- `Line::with` meets its contract: each number's text and a space are put after those before it.
+-- `Line::add` meets its contract: each number's text and a space are put after those before it.
 use Rattle.std.proofs.Common.{rules, ◌≡◌, ◌∙◌, sym}
 use Rattle.test_lines.proofs.Bytes.{one_number, all_numbers}
-use Rattle.test_lines.proofs.Line.with.Goals as goal
+use Rattle.test_lines.proofs.Line.add.Goals as goal
 
 pub loop-number-preserved : goal.loop-number-preserved
 loop-number-preserved g c =

@@ -2,7 +2,7 @@
 use Rattle.std.proofs.Common.{◌≡◌, drop}
 use Rattle.test_lines.specs.Lines.{with_bytes, numbers_text}
 use Rattle.test_lines.specs.Unwritten.{unwritten}
-use Rattle.test_lines.proofs.Line.with.Given as goal
+use Rattle.test_lines.proofs.Line.add.Given as goal
 
 abbrev pub invariant-loop-number : goal.invariant-loop-number
 invariant-loop-number g l =
