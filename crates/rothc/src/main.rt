@@ -92,19 +92,11 @@ fn say(rt: &HostRuntime, fault: &Fault) -> Result<(), Error> {
 fn run(rt: &HostRuntime, book: &[u8]) -> Result<bool, Fault>
     ensures { IfOk result (λ refused. refused ≡ book_refused book.now) }
 {
-    // An array and a length, as in `read_and_run`: a Vec's memory could fail.
+    // An array and a length, as in `main`: a Vec's memory could fail.
     let mut out = [0u8; OUTPUT_SIZE];
     let written = report(book, &mut out);
     write_whole(rt, &out[..written.length]).map_err(Fault::Output)?;
     Ok(written.refused)
-}
-
-// Reads a book and runs it. Where reading fails nothing is written. The array's last byte is the
-// first one past the 65,536 that a book may have.
-fn read_and_run(rt: &HostRuntime) -> Result<bool, Fault> {
-    let mut book = [0u8; 65_537];
-    let length = read_book(&mut rt.stdin(), &mut book).map_err(Fault::Input)?;
-    run(rt, &book[..length])
 }
 
 // The exit status.
@@ -154,10 +146,15 @@ fn tell(rt: &HostRuntime, status: Status) {
     }
 }
 
-// The program by itself ends with 0, as is documented, and ./rothc is handed the status: so there
-// is no ExitCode.
+// Where reading fails nothing is written. The array's last byte is the first one past the 65,536
+// that a book may have. The program by itself ends with 0, as is documented, and ./rothc is handed
+// the status: so there is no ExitCode.
 fn main(rt: HostRuntime) {
-    let ran = read_and_run(&rt);
+    let mut book = [0u8; 65_537];
+    let ran = match read_book(&mut rt.stdin(), &mut book) {
+        Ok(length) => run(&rt, &book[..length]),
+        Err(why) => Err(Fault::Input(why)),
+    };
     if let Err(fault) = &ran {
         let _ = say(&rt, fault);
     }
